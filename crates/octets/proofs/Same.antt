@@ -1,15 +1,15 @@
--- Laws of `same`: it decides equality of lists of bytes.
-use Prim.Native.Nat.{ℕ, suc, _+_, _<_}
+-- Laws of `same`, which decides equality of lists of bytes, and of `standsAt`.
+use Prim.Native.Nat.{ℕ, suc, _+_, _-_, _<_, _≤_}
 use native.Mathlib.Numerals.{add-one}
 use native.Mathlib.Omega.{arith}
 use mathlib.Core.Bool.{Bool, true, false, _&&_}
 use mathlib.Core.List.{List, [], _∷_}
-use mathlib.Core.Path.{_≡_, refl, ap}
+use mathlib.Core.Path.{_≡_, refl, sym, ap}
 use borrow.Author.Tests.{eq-eqb, eqb-true}
-use lib.Dec.{eqb}
-use lib.ListN.{length, drop, getD}
-use lib.Seq.{drop-cons}
-use Rattle.octets.specs.Octets.{same}
+use lib.Dec.{eqb, eqb·suc-zero}
+use lib.ListN.{length, take, drop, getD, length-take, length-drop, drop-of-length-le}
+use lib.Seq.{drop-cons, take-nil}
+use Rattle.octets.specs.Octets.{same, standsAt}
 
 pub same-self : (list : List ℕ) → same list list ≡ true
 unfolding same
@@ -42,3 +42,19 @@ pub same-step :
     → same (drop i left) (drop i right) ≡ (eqb (getD left i 0) (getD right i 0) && same (drop (i + 1) left) (drop (i + 1) right))
 unfolding same
 same-step left right i l r = rw (drop-cons left i 0, drop-cons right i 0, add-one)
+
+-- only the empty list is the same as the empty list
+pub same-empty : (right : List ℕ) → same [] right ≡ eqb (length right) 0
+unfolding same
+same-empty [] = refl
+same-empty (y ∷ ys) = sym (eqb·suc-zero (length ys))
+
+-- behind the end of a list only the empty list stands
+pub stands-behind : (list : List ℕ) (at : ℕ) (expected : List ℕ) → length list < at → standsAt list at expected ≡ eqb (length expected) 0
+stands-behind list at expected h =
+    let ends : length list ≤ at = omega arith in
+    rw (drop-of-length-le list ends, take-nil, same-empty)
+
+pub stands-short : (list : List ℕ) (at : ℕ) (expected : List ℕ) → length list - at < length expected → standsAt list at expected ≡ false
+stands-short list at expected h =
+    same-lengths _ _ (λ (e : length (take (length expected) (drop at list)) ≡ length expected). omega (arith, e, length-take (length expected) (drop at list), length-drop at list))

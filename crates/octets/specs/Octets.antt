@@ -25,3 +25,7 @@ same [] [] = true
 same [] (y ∷ ys) = false
 same (x ∷ xs) [] = false
 same (x ∷ xs) (y ∷ ys) = eqb x y && same xs ys
+
+-- whether `expected` stands in a list from `at` on
+abbrev pub standsAt : List ℕ → ℕ → List ℕ → Bool
+standsAt list at expected = same (take (length expected) (drop at list)) expected

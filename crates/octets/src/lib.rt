@@ -1,6 +1,6 @@
 // What every layer does with bytes: put them into a lent buffer, compare them, widen one.
 ghost use mathlib.Core.Path.{_≡_};
-ghost use Rattle.octets.specs.Octets.{Overwrites, same};
+ghost use Rattle.octets.specs.Octets.{Overwrites, same, standsAt};
 
 // A byte as a length or a place.
 pub fn wide(byte: u8) -> usize
@@ -44,4 +44,19 @@ pub fn equal(left: &[u8], right: &[u8]) -> bool
         i += 1;
     }
     true
+}
+
+// Whether `expected` stands in `bytes` from `at` on.
+pub fn stands_at(bytes: &[u8], at: usize, expected: &[u8]) -> bool
+    ensures { λ r. ⌜ r ≡ standsAt (now (bytes .entry)) at (now (expected .entry)) ⌝ }
+{
+    if bytes.len() < at {
+        return expected.len() == 0;
+    }
+    let count = expected.len();
+    if bytes.len() - at < count {
+        return false;
+    }
+    let end = at + count;
+    equal(&bytes[at..end], expected)
 }
