@@ -1,4 +1,5 @@
 // What every layer does with bytes: put them into a lent buffer, compare them, widen one.
+ghost use mathlib.Core.List.{_++_};
 ghost use mathlib.Core.Path.{_≡_};
 ghost use Rattle.octets.specs.Octets.{Overwrites, same, standsAt};
 
@@ -26,6 +27,26 @@ pub fn overwrite(buffer: &mut [u8], at: usize, bytes: &[u8]) -> bool
         buffer[place] = bytes[i];
         i += 1;
     }
+    true
+}
+
+// Puts `first` and then `second` into `buffer` from `at` on, and says whether both fit; where they do not, the buffer stays as it was.
+pub fn overwrite_pair(buffer: &mut [u8], at: usize, first: &[u8], second: &[u8]) -> bool
+    ensures { λ r. ⌜ Overwrites (now (buffer .entry)) at (now (first .entry) ++ now (second .entry)) r (now (buffer .exit)) ⌝ }
+{
+    if buffer.len() < at {
+        return false;
+    }
+    let room = buffer.len() - at;
+    if room < first.len() {
+        return false;
+    }
+    if room - first.len() < second.len() {
+        return false;
+    }
+    overwrite(buffer, at, first);
+    let next = at + first.len();
+    overwrite(buffer, next, second);
     true
 }
 

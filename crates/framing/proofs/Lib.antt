@@ -1,0 +1,4 @@
+pub mod Sums
+pub mod Passwords
+pub mod Checks
+pub mod Writing
