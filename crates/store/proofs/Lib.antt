@@ -1,0 +1,15 @@
+pub mod Tables
+pub mod SetColumns
+pub mod Rooms
+pub mod Members
+pub mod Neighbours
+pub mod TwosComplement
+pub mod Degrees
+pub mod Measurements
+pub mod Starts
+pub mod Frames
+pub mod Bools
+pub mod Searches
+pub mod NewValues
+pub mod Soundness
+pub mod Laws

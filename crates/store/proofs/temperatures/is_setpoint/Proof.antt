@@ -1,0 +1,13 @@
+-- `temperatures::is_setpoint` meets its contract.
+use borrow.Author.Tests.{eq-eqb, ne-eqb}
+use Rattle.store.proofs.temperatures.is_setpoint.Statement.{statement}
+use Rattle.store.proofs.temperatures.is_setpoint.Tie as tie
+
+returns : tie.Need-returns
+returns c = simp (eq-eqb _ _ (c .if1 .taken))
+
+returns-2 : tie.Need-returns-2
+returns-2 c = simp (ne-eqb _ _ (c .if1 .left))
+
+pub is-setpoint-spec : {M : Type 1} → statement M
+is-setpoint-spec = tie.close (tie.spec returns returns-2)

@@ -1,0 +1,41 @@
+-- The store as set-up leaves it.
+use Prim.Native.Nat.{ℕ}
+use mathlib.Core.Bool.{cond}
+use mathlib.Core.List.{List, [], _∷_, _++_}
+use lib.Dec.{eqb, ltb}
+use lib.ListN.{replicate}
+use Rattle.store.specs.declared.Range.{Range}
+use Rattle.store.specs.declared.Store.{Store}
+use Rattle.store.specs.Rows.{Set, Switch, Number, Text, Free, Clock, Calendar, Row, rows}
+use Rattle.store.specs.Sets.{bytesOf}
+use Rattle.store.specs.Layout.{toRoom}
+
+-- the least number of a range
+abbrev pub least : Range → ℕ
+least r = cond (ltb (r .extra) (r .low)) (r .extra) (r .low)
+
+-- the lowest bytes of a set
+unfoldable pub lowest : Set → List ℕ
+lowest Switch = 0 ∷ []
+lowest (Number size r) = bytesOf size (least r)
+lowest (Text shortest longest) = replicate shortest 0x20
+lowest (Free size) = replicate size 0
+lowest Clock = 0 ∷ 0 ∷ 0 ∷ []
+lowest Calendar = 1 ∷ 1 ∷ 1 ∷ 0 ∷ []
+
+unfoldable pub startValue : List ℕ → Row → List ℕ
+startValue id r =
+    cond (eqb (r .number) 0x0037) (100 ∷ [])
+    (cond (eqb (r .number) 0x007C) id
+    (cond (eqb (r .number) 0x0095) (0x41 ∷ [])
+    (cond (eqb (r .number) 0x0096) (replicate 8 0x30)
+    (cond (eqb (r .number) 0x00B9) (2 ∷ 0 ∷ [])
+    (lowest (r .set))))))
+
+-- the rooms of rows with their start values, one behind the other
+unfoldable pub startRooms : List ℕ → List Row → List ℕ
+startRooms id [] = []
+startRooms id (r ∷ rs) = toRoom (r .set) (startValue id r) ++ startRooms id rs
+
+unfoldable pub start : List ℕ → Store
+start id = record { bytes = startRooms id rows }

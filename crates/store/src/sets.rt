@@ -1,0 +1,219 @@
+// Membership in the set of a row, and the neighbours of a number in a range.
+ghost use mathlib.Core.Bool.{cond};
+ghost use mathlib.Core.Path.{_≡_};
+ghost use Prim.Native.Nat.{_<_};
+ghost use lib.ListN.{getD};
+ghost use Rattle.store.specs.Rows.{Switch, Number, Text, Clock, Calendar};
+ghost use Rattle.store.specs.Layout.{setAt};
+ghost use Rattle.store.specs.Sets.{numberOf, between, inRange, printable, threeFields, member, greatest as greatestOf, leastAbove, greatestBelow};
+ghost use Rattle.store.specs.Columns.{rangeOf};
+ghost use Rattle.store.specs.Next.{nextOf};
+use crate::Range;
+use crate::columns::kind_at;
+use crate::columns::range_at;
+use crate::columns::size_at;
+use crate::layout::byte_at;
+
+// What lies next to a number in a range.
+pub enum Next {
+    To(u16),
+    Stay,
+}
+
+fn wide(byte: u8) -> u16
+    ensures { λ r. ⌜ r ≡ byte ⌝ }
+{
+    byte as u16
+}
+
+// The number that the first two bytes make, low byte first.
+pub fn number_of(value: &[u8]) -> u16
+    ensures { λ r. ⌜ r ≡ numberOf (now (value .entry)) ⌝ }
+{
+    let low = wide(byte_at(value, 0));
+    let high = wide(byte_at(value, 1));
+    low + 256 * high
+}
+
+fn is_between(low: u8, high: u8, byte: u8) -> bool
+    ensures { λ r. ⌜ r ≡ between low high byte ⌝ }
+{
+    if byte < low {
+        return false;
+    }
+    byte <= high
+}
+
+// Whether the byte at a place lies between two bounds.
+fn field(value: &[u8], at: usize, low: u8, high: u8) -> bool
+    ensures { λ r. ⌜ r ≡ between low high (getD (now (value .entry)) at 0) ⌝ }
+{
+    is_between(low, high, byte_at(value, at))
+}
+
+fn in_range(range: Range, number: u16) -> bool
+    requires { ⌜ 0 < range .step ⌝ }
+    ensures { λ r. ⌜ r ≡ inRange range number ⌝ }
+{
+    if number == range.extra {
+        return true;
+    }
+    if number < range.low {
+        return false;
+    }
+    if range.high < number {
+        return false;
+    }
+    (number - range.low) % range.step == 0
+}
+
+fn is_printable(value: &[u8]) -> bool
+    ensures { λ r. ⌜ r ≡ printable (now (value .entry)) ⌝ }
+{
+    let mut i: usize = 0;
+    while i < value.len() {
+        if is_between(0x20, 0x7E, value[i]) {
+            i += 1;
+        } else {
+            return false;
+        }
+    }
+    true
+}
+
+// Whether the first three bytes lie between one lower bound and each its upper one.
+fn three_fields(value: &[u8], low: u8, first: u8, second: u8, third: u8) -> bool
+    ensures { λ r. ⌜ r ≡ threeFields low first second third (now (value .entry)) ⌝ }
+{
+    if !field(value, 0, low, first) {
+        return false;
+    }
+    if !field(value, 1, low, second) {
+        return false;
+    }
+    field(value, 2, low, third)
+}
+
+fn is_clock(value: &[u8]) -> bool
+    ensures { λ r. ⌜ r ≡ member Clock (now (value .entry)) ⌝ }
+{
+    if value.len() != 3 {
+        return false;
+    }
+    three_fields(value, 0, 59, 59, 23)
+}
+
+fn is_calendar(value: &[u8]) -> bool
+    ensures { λ r. ⌜ r ≡ member Calendar (now (value .entry)) ⌝ }
+{
+    if value.len() != 4 {
+        return false;
+    }
+    if !three_fields(value, 1, 31, 7, 12) {
+        return false;
+    }
+    field(value, 3, 0, 99)
+}
+
+fn is_switch(value: &[u8]) -> bool
+    ensures { λ r. ⌜ r ≡ member Switch (now (value .entry)) ⌝ }
+{
+    if value.len() != 1 {
+        return false;
+    }
+    value[0] <= 1
+}
+
+fn is_number(size: usize, range: Range, value: &[u8]) -> bool
+    requires { ⌜ 0 < range .step ⌝ }
+    ensures { λ r. ⌜ r ≡ member (Number size range) (now (value .entry)) ⌝ }
+{
+    if value.len() != size {
+        return false;
+    }
+    in_range(range, number_of(value))
+}
+
+fn is_text(shortest: u16, longest: usize, value: &[u8]) -> bool
+    ensures { λ r. ⌜ r ≡ member (Text shortest longest) (now (value .entry)) ⌝ }
+{
+    if value.len() < shortest as usize {
+        return false;
+    }
+    if longest < value.len() {
+        return false;
+    }
+    is_printable(value)
+}
+
+// Whether a value is in the set of the row at an index.
+pub fn is_member(index: usize, value: &[u8]) -> bool
+    ensures { λ r. ⌜ r ≡ member (setAt index) (now (value .entry)) ⌝ }
+{
+    let kind = kind_at(index);
+    if kind == crate::columns::SWITCH {
+        return is_switch(value);
+    }
+    if kind == crate::columns::NUMBER {
+        return is_number(size_at(index), range_at(index), value);
+    }
+    if kind == crate::columns::TEXT {
+        return is_text(range_at(index).low, size_at(index), value);
+    }
+    if kind == crate::columns::FREE {
+        return value.len() == size_at(index);
+    }
+    if kind == crate::columns::CLOCK {
+        return is_clock(value);
+    }
+    is_calendar(value)
+}
+
+fn greatest(range: Range) -> u16
+    ensures { λ r. ⌜ r ≡ greatestOf range ⌝ }
+{
+    if range.high < range.extra {
+        return range.extra;
+    }
+    range.high
+}
+
+fn least_above(range: Range, number: u16) -> Next
+    requires { ⌜ 0 < range .step ⌝ }
+    ensures { λ r. ⌜ r ≡ nextOf (leastAbove range number) ⌝ }
+{
+    let most = greatest(range);
+    let mut next = number;
+    while next < most {
+        next += 1;
+        if in_range(range, next) {
+            return Next::To(next);
+        }
+    }
+    Next::Stay
+}
+
+fn greatest_below(range: Range, number: u16) -> Next
+    requires { ⌜ 0 < range .step ⌝ }
+    ensures { λ r. ⌜ r ≡ nextOf (greatestBelow range number) ⌝ }
+{
+    let mut next = number;
+    while 0 < next {
+        next -= 1;
+        if in_range(range, next) {
+            return Next::To(next);
+        }
+    }
+    Next::Stay
+}
+
+// The neighbour of a number in the range of the row at an index, up or down.
+pub fn neighbour(index: usize, number: u16, up: bool) -> Next
+    ensures { λ r. ⌜ r ≡ nextOf (cond up leastAbove greatestBelow (rangeOf (setAt index)) number) ⌝ }
+{
+    let range = range_at(index);
+    if up {
+        return least_above(range, number);
+    }
+    greatest_below(range, number)
+}
