@@ -1,0 +1,14 @@
+pub mod StepRefusals
+pub mod Soundness
+pub mod Refused
+pub mod Changed
+pub mod Unauthenticated
+pub mod Noninterfering
+pub mod Traced
+pub mod Drafts
+pub mod Running
+pub mod Turns
+pub mod Checking
+pub mod Starting
+pub mod Responding
+pub mod Responses

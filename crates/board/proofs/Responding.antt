@@ -1,0 +1,164 @@
+-- What the code makes of a request, case by case.
+use Prim.Native.Nat.{ℕ, _+_, _-_, _<_, _≤_}
+use native.Mathlib.Omega.{arith}
+use mathlib.Core.Bool.{Bool, true, false, cond}
+use mathlib.Core.List.{List}
+use mathlib.Core.Option.{Option, none, some}
+use mathlib.Core.Path.{_≡_, refl, sym, ap, _∙_}
+use borrow.Author.Tests.{eq-eqb, ne-eqb, leb-true}
+use lib.ListN.{length, drop, length-take}
+use Rattle.octets.proofs.Booleans.{both-true}
+use Rattle.octets.proofs.Overwriting.{length-overwrite}
+use Rattle.octets.specs.Octets.{overwrite}
+use Rattle.framing.specs.Frame.{Frame, packetOf}
+use Rattle.framing.specs.Packet.{Writes, writable}
+use Rattle.framing.specs.declared.Written.{Written}
+use Rattle.framing.specs.declared.Written.the-variants.{Length, NoPacket}
+use Rattle.framing.specs.Packet.{frameOf, packetRefusal, parsedAs, passwordSize, placesOf}
+use Rattle.framing.specs.declared.Parsed.{Parsed}
+use Rattle.framing.specs.declared.Parsed.the-variants as read
+use Rattle.framing.specs.declared.Places.{Places}
+use Rattle.framing.proofs.Checks.{within-lengths, within-sizes}
+use Rattle.framing.proofs.WritesRead.{accepted}
+use Rattle.block.specs.Command.{Command}
+use Rattle.block.specs.Encoding.{encodableReport, encodeReports, every}
+use Rattle.block.specs.Request.{commands}
+use Rattle.store.specs.declared.Store.{Store}
+use Rattle.board.specs.Answering.{Leaves, answered, inIdentity, numberIn, refusedWith, responded, respondedIn, respondedWith, responseOf, scopeOf}
+use Rattle.board.specs.Commands.{run}
+use Rattle.board.specs.Draft.{blank, exceeded, extended, ranBehind, ranBlock, ranOf, runReportsIn, taken}
+use Rattle.board.specs.Record.{withStore}
+use Rattle.board.specs.Step.{Call, Outcome, Request, Steps, step, outcomeOf, isDiscovery, otherId, wrongPassword, wrongFunction, malformed, discoveryWrites}
+use Rattle.board.specs.declared.Answer.{Answer}
+use Rattle.board.specs.declared.Answer.the-variants.{Refused, Response, Silence}
+use Rattle.board.specs.declared.Board.{Board}
+use Rattle.board.specs.declared.Stepped.{Stepped}
+use Rattle.board.specs.declared.commands.Ran.{Ran}
+use Rattle.board.specs.declared.commands.Scope.{Scope}
+use Rattle.board.specs.declared.draft.Room.{Room}
+use Rattle.board.specs.declared.draft.Room.the-variants.{Left, Over}
+
+-- the outcome that a result and a buffer are, and its transport
+pub leaves : {board : Board} {answer : Answer} {buffer : List ℕ} {result : Stepped} {after : List ℕ} {outcome : Outcome} → outcome ≡ outcomeOf board answer buffer
+    → result .board ≡ board → result .answer ≡ answer → after ≡ buffer → Leaves outcome result after
+leaves e a b c =
+    record {
+      board = a ∙ ap (λ (o : Outcome). o .board) (sym e);
+      answer = b ∙ ap (λ (o : Outcome). o .answer) (sym e);
+      buffer = c ∙ ap (λ (o : Outcome). o .buffer) (sym e);
+    }
+
+pub leaves-as : {result : Stepped} {after : List ℕ} {left right : Outcome} → left ≡ right → Leaves right result after → Leaves left result after
+leaves-as e d = leaves e (d .board) (d .answer) (d .buffer)
+
+-- a draft ends within its array
+inside-by : (scope : Scope) (store : Store) (decoded : Option (List Command)) {ran : Ran} → ran ≡ ranBehind (ranOf store (exceeded blank)) scope store blank decoded
+    → ran .draft .length ≤ length (ran .draft .bytes)
+inside-by scope store none e = rw e (omega arith)
+inside-by scope store (some cs) e = rw e (by-room (taken blank (runReportsIn scope store cs)) refl)
+  where
+    by-room : (yes : Bool) → taken blank (runReportsIn scope store cs) ≡ yes
+        → cond yes (ranOf (run store cs) (extended blank (runReportsIn scope store cs))) (ranOf store (exceeded blank)) .draft .length
+        ≤ length (cond yes (ranOf (run store cs) (extended blank (runReportsIn scope store cs))) (ranOf store (exceeded blank)) .draft .bytes)
+    by-room true e =
+        let room : 0 + length (encodeReports 0 (runReportsIn scope store cs)) ≤ length (blank .bytes) =
+        leb-true (0 + length (encodeReports 0 (runReportsIn scope store cs))) (length (blank .bytes)) (both-true (every encodableReport (runReportsIn scope store cs)) _ e .1) in
+        rw (length-overwrite (blank .bytes) 0 (encodeReports 0 (runReportsIn scope store cs)) room) room
+    by-room false e = omega arith
+
+pub ran-inside : (scope : Scope) (store : Store) (function : ℕ) (block : List ℕ) {ran : Ran} → ran ≡ ranBlock scope store function block → ran .draft .length ≤ length (ran .draft .bytes)
+ran-inside scope store function block e = inside-by scope store (commands function block) e
+
+module _ (ran : Ran) (r : Request) (buffer : List ℕ) where
+  pub responded-over : ran .draft .room ≡ Over → respondedWith ran r buffer ≡ refusedWith 12 r buffer
+  responded-over e = ap (λ (room : Room). respondedIn room ran r buffer) e
+
+  pub responded-silent : ran .draft .room ≡ Left → ran .draft .length ≡ 0 → respondedWith ran r buffer ≡ outcomeOf (withStore (r .board) (ran .store)) Silence buffer
+  responded-silent e h = ap (λ (room : Room). respondedIn room ran r buffer) e ∙ rw (eq-eqb _ _ h)
+
+  pub responded-long : ran .draft .room ≡ Left → (ran .draft .length ≡ 0 → ⊥) → writable (responseOf ran r) buffer ≡ false → respondedWith ran r buffer ≡ refusedWith 12 r buffer
+  responded-long e h w = ap (λ (room : Room). respondedIn room ran r buffer) e ∙ rw (ne-eqb _ _ h, w)
+
+  pub responded-full :
+      ran .draft .room ≡ Left → (ran .draft .length ≡ 0 → ⊥) → writable (responseOf ran r) buffer ≡ true
+      → respondedWith ran r buffer
+      ≡ outcomeOf (withStore (r .board) (ran .store)) (Response (length (packetOf (responseOf ran r)))) (overwrite buffer 0 (packetOf (responseOf ran r)))
+  responded-full e h w = ap (λ (room : Room). respondedIn room ran r buffer) e ∙ rw (ne-eqb _ _ h, w)
+
+-- what framing's writer answered
+written-by : (yes : Bool) {answer : Written} {size length : ℕ} → answer ≡ cond yes (Length size) NoPacket → answer ≡ Length length → (yes ≡ true) × (length ≡ size)
+written-by true e h = (refl, cc)
+written-by false e h = ((cc), (cc))
+
+not-written-by : (yes : Bool) {answer : Written} (size : ℕ) → answer ≡ cond yes (Length size) NoPacket → answer ≡ NoPacket → yes ≡ false
+not-written-by true size e h = cc
+not-written-by false size e h = refl
+
+pub frame-written : {f : Frame} {buffer after : List ℕ} {answer : Written} {written : ℕ} → Writes f buffer answer after → answer ≡ Length written → (writable f buffer ≡ true) × (written ≡ length (packetOf f))
+frame-written {f} {buffer} d h = written-by (writable f buffer) (d .answered) h
+
+pub frame-not-written : {f : Frame} {buffer after : List ℕ} {answer : Written} → Writes f buffer answer after → answer ≡ NoPacket → (writable f buffer ≡ false) × (after ≡ buffer)
+frame-not-written {f} {buffer} {after} d h =
+    let no : writable f buffer ≡ false = not-written-by (writable f buffer) _ (d .answered) h in
+    (no, d .held ∙ rw no)
+
+-- a request by the five checks before its response
+pub answered-by :
+    (r : Request) (buffer : List ℕ) {id-wrong password-wrong function-wrong block-wrong reads-wrong : Bool} → otherId r ≡ id-wrong → wrongPassword r ≡ password-wrong
+    → wrongFunction r ≡ function-wrong → malformed r ≡ block-wrong → discoveryWrites r ≡ reads-wrong
+    → answered r buffer
+    ≡ cond id-wrong (refusedWith 7 r buffer)
+    (cond password-wrong (refusedWith 8 r buffer)
+    (cond function-wrong (refusedWith 9 r buffer)
+    (cond block-wrong (refusedWith 10 r buffer)
+    (cond reads-wrong (refusedWith 11 r buffer) (responded (scopeOf (isDiscovery r)) r buffer)))))
+unfolding answered
+answered-by r buffer a b c d e =
+    λ i. cond (a i) (refusedWith 7 r buffer)
+    (cond (b i) (refusedWith 8 r buffer)
+    (cond (c i) (refusedWith 9 r buffer)
+    (cond (d i) (refusedWith 10 r buffer)
+    (cond (e i) (refusedWith 11 r buffer) (responded (scopeOf (isDiscovery r)) r buffer)))))
+
+-- a scope tells whether there is a discovery
+pub scope-told : (discovery : Bool) → inIdentity (scopeOf discovery) ≡ discovery
+scope-told true = refl
+scope-told false = refl
+
+-- what framing's reader answered
+pub refused-number : (refusal : Option ℕ) (places : Places) {parsed : Parsed} {number : ℕ} → parsed ≡ parsedAs refusal places → parsed ≡ read.Refused number → refusal ≡ some (numberIn parsed)
+refused-number (some n) places e h = ap (λ (p : Parsed). some (numberIn p)) (sym e)
+refused-number none places e h = cc
+
+pub accepted-places : (refusal : Option ℕ) {given places : Places} {parsed : Parsed} → parsed ≡ parsedAs refusal given → parsed ≡ read.Frame places → (refusal ≡ none) × (places ≡ given)
+accepted-places (some n) e h = ((cc), (cc))
+accepted-places none e h = (refl, cc)
+
+-- a packet that is read keeps its parts within its bytes
+pub record Within (packet : List ℕ) (places : Places) : Type 0 where
+  pub id : places .id + 16 ≤ length packet
+  pub password : places .password ≤ places .function
+  pub function : places .function < length packet
+  pub block : places .block ≤ places .end
+  pub end : places .end ≤ length packet
+
+pub within : (packet : List ℕ) {places : Places} → packetRefusal packet ≡ none → places ≡ placesOf packet → Within packet places
+within packet right e =
+    let known = accepted packet right in
+    let lengths = within-lengths packet (known .length-right) in
+    let sizes = within-sizes packet (known .size-right) in
+    rw e (record { id = omega arith; password = omega arith; function = omega arith; block = omega arith; end = omega arith })
+
+pub password-short : (packet : List ℕ) → packetRefusal packet ≡ none → length (frameOf packet .password) ≤ 8
+password-short packet right =
+    let sizes = within-sizes packet (accepted packet right .size-right) in
+    omega (arith, length-take (21 + passwordSize packet - 21) (drop 21 packet))
+
+-- a contract of a packet, by its outcome
+pub steps : {c : Call} {result : Stepped} {after : List ℕ} {outcome : Outcome} → step c ≡ outcome → Leaves outcome result after → Steps c result after
+steps e d =
+    record {
+      board = d .board ∙ ap (λ (o : Outcome). o .board) (sym e);
+      answer = d .answer ∙ ap (λ (o : Outcome). o .answer) (sym e);
+      buffer = d .buffer ∙ ap (λ (o : Outcome). o .buffer) (sym e);
+    }

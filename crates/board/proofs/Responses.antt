@@ -1,0 +1,351 @@
+-- The way the code goes through a request ends where the definition says.
+use Prim.Native.Nat.{ℕ, _+_, _<_, _≤_}
+use native.Mathlib.Nat.{zero-add}
+use native.Mathlib.Omega.{arith}
+use mathlib.Core.Bool.{Bool, true, false, cond, not, _&&_, _||_}
+use mathlib.Core.List.{List, [], _∷_, _++_}
+use mathlib.Core.Option.{Option, none, some, Option·getD}
+use mathlib.Core.Path.{_≡_, refl, sym, ap, _∙_}
+use borrow.Author.Tests.{leb-false, ltb-true, ltb-false, eqb-true, le-leb, lt-leb, lt-ltb, le-ltb, eq-eqb, ne-eqb, not-false}
+use lib.Dec.{leb, ltb, eqb}
+use lib.ListN.{length, take, drop, replicate, length-append, length-replicate}
+use lib.Seq.{take-at}
+use Rattle.octets.specs.Octets.{overwrite, fits}
+use Rattle.octets.proofs.Booleans.{both-true}
+use Rattle.framing.specs.Frame.{Frame, frame, packetOf, packetLength}
+use Rattle.framing.specs.Packet.{writable}
+use Rattle.framing.specs.Refusal.{firstRefusal}
+use Rattle.framing.proofs.Writing.{length-packet}
+use Rattle.block.specs.Command.{Command, commandNumber, Report, held, unknown, reportPage}
+use Rattle.block.specs.Encoding.{change, reportBody, encodeReport, encodeReports, encodableReport, every}
+use Rattle.block.specs.Reading.{isSome}
+use Rattle.block.specs.Request.{onlyReads}
+use Rattle.block.proofs.AllReads.{all-reads}
+use Rattle.block.proofs.LowBytes.{isLow, low-bytes}
+use Rattle.store.specs.declared.Answer.the-variants.{Value, Unknown, Silence as Unanswered}
+use Rattle.store.specs.declared.Store.{Store}
+use Rattle.store.specs.Laws.{Operation, Write, Raise, Lower, after, Sized}
+use Rattle.store.specs.Layout.{valueOf}
+use Rattle.store.specs.Operations.{answer}
+use Rattle.store.specs.Rows.{rows, indexIn, known}
+use Rattle.store.specs.Sound as stored
+use Rattle.store.proofs.Laws.{size-kept, sound-kept, held-length}
+use Rattle.board.specs.Answering.{answered, refusedWith, respondedWith, responded, scopeOf}
+use Rattle.board.specs.Commands.{afterCommand, reported, reportAs, run, runReports, discovered, discoverReports}
+use Rattle.board.specs.Draft.{blank, taken, extended, exceeded, reportedIn, runReportsIn, selected, ranOf, ranBehind}
+use Rattle.board.specs.Record.{sound, micra, withStore}
+use Rattle.board.specs.Step.{Request, isDiscovery, decoded, reportsOf, otherId, wrongPassword, wrongFunction, malformed, discoveryWrites, longResponse, requestRefusals, Outcome, outcomeOf, nextBoard, answerWith, outcomeBy}
+use Rattle.board.specs.declared.Answer.the-variants.{Silence, Response}
+use Rattle.board.specs.declared.Board.{Board}
+use Rattle.board.specs.declared.commands.Ran.{Ran}
+use Rattle.board.specs.declared.commands.Scope.{Scope}
+use Rattle.board.specs.declared.commands.Scope.the-variants.{All, Identity}
+use Rattle.board.proofs.Soundness.{sound-parts, id-length}
+use Rattle.board.proofs.StepRefusals.{request-refusal-by}
+
+-- a read leaves the store as it was
+abbrev isRead : Command → Bool
+isRead c = eqb (c .function) 1
+
+read-keeps : (store : Store) (c : Command) → isRead c ≡ true → afterCommand store c ≡ store
+unfolding afterCommand
+read-keeps store c h = rw (eqb-true (c .function) 1 h)
+
+reads-keep : (cs : List Command) (store : Store) → every isRead cs ≡ true → run store cs ≡ store
+unfolding run every
+reads-keep [] store h = refl
+reads-keep (c ∷ cs) store h =
+    let both = both-true (isRead c) (every isRead cs) h in
+    ap (λ (s : Store). run s cs) (read-keeps store c (both .0)) ∙ reads-keep cs store (both .1)
+
+-- the reports outside a discovery
+all-reports : (cs : List Command) (store : Store) → runReportsIn All store cs ≡ runReports store cs
+unfolding runReportsIn runReports
+all-reports [] store = refl
+all-reports (c ∷ cs) store = ap (λ (rs : List Report). reported (afterCommand store c) c ++ rs) (all-reports cs (afterCommand store c))
+
+-- the rows of the identity are known
+id-known : known 0x007C ≡ true
+unfolding rows indexIn
+id-known = refl
+
+type-known : known 0x00B9 ≡ true
+unfolding rows indexIn
+type-known = refl
+
+-- a read of a known parameter
+read-held :
+    (store : Store) (c : Command) (n : ℕ) (value : List ℕ) → isRead c ≡ true → commandNumber c ≡ n → known n ≡ true → valueOf store n ≡ value
+    → reported store c ≡ held (c .page) (c .low) value ∷ []
+unfolding reported
+read-held store c n value read named is-known e =
+    ap (λ (f : ℕ). reportAs (answer f (commandNumber c) (c .value)) store c) (eqb-true (c .function) 1 read)
+    ∙ ap (λ (k : Bool). reportAs (cond k Value Unknown) store c) (ap known named ∙ is-known)
+    ∙ ap (λ (v : List ℕ). held (c .page) (c .low) v ∷ []) (ap (valueOf store) named ∙ e)
+
+-- the reports of a discovery
+module _ (id : List ℕ) (store : Store) (own-id : valueOf store 0x007C ≡ id) (unit-type : valueOf store 0x00B9 ≡ micra) where
+  identity-report : (c : Command) → isRead c ≡ true → reportedIn Identity store c ≡ discovered id c
+  unfolding discovered
+  identity-report c read = by-number (eqb (commandNumber c) 0x007C) (eqb (commandNumber c) 0x00B9) refl refl
+    where
+      by-number :
+          (is-id is-type : Bool) → eqb (commandNumber c) 0x007C ≡ is-id → eqb (commandNumber c) 0x00B9 ≡ is-type
+          → cond (is-id || is-type) (reported store c) []
+          ≡ cond is-id (held (c .page) (c .low) id ∷ []) (cond is-type (held (c .page) (c .low) micra ∷ []) [])
+      by-number true is-type p q = read-held store c 0x007C id read (eqb-true _ _ p) id-known own-id
+      by-number false true p q = read-held store c 0x00B9 micra read (eqb-true _ _ q) type-known unit-type
+      by-number false false p q = refl
+
+  identity-reports : (cs : List Command) → every isRead cs ≡ true → runReportsIn Identity store cs ≡ discoverReports id cs
+  unfolding runReportsIn discoverReports every
+  identity-reports [] h = refl
+  identity-reports (c ∷ cs) h =
+      let both = both-true (isRead c) (every isRead cs) h in
+      ap (λ (s : Store). reportedIn Identity s c ++ runReportsIn Identity s cs) (read-keeps store c (both .0))
+      ∙ (λ i. identity-report c (both .0) i ++ identity-reports cs (both .1) i)
+
+-- a store that is sound, and as long as the code has it
+record Fit (store : Store) : Type 0 where
+  size : Sized store
+  sound : stored.sound store ≡ true
+
+fit-after : (store : Store) (c : Command) → Fit store → Fit (afterCommand store c)
+unfolding afterCommand
+fit-after store c fit = by-function (eqb (c .function) 2 || eqb (c .function) 3) (eqb (c .function) 4) (eqb (c .function) 5)
+  where
+    after-operation : (o : Operation) → Fit (after o store (commandNumber c))
+    after-operation o =
+        record { size = size-kept o store (commandNumber c) (fit .size); sound = sound-kept o store (commandNumber c) (fit .size) (fit .sound) }
+
+    by-function :
+        (writes raises lowers : Bool)
+        → Fit (cond writes (after (Write (c .value)) store (commandNumber c))
+        (cond raises (after Raise store (commandNumber c)) (cond lowers (after Lower store (commandNumber c)) store)))
+    by-function true raises lowers = after-operation (Write (c .value))
+    by-function false true lowers = after-operation Raise
+    by-function false false true = after-operation Lower
+    by-function false false false = fit
+
+-- each report has a form
+all-true : (a b c d : Bool) → a ≡ true → b ≡ true → c ≡ true → d ≡ true → (a && b && c && d) ≡ true
+all-true a b c d p q r s = λ i. p i && q i && r i && s i
+
+encodable-report : (scope : Scope) (store : Store) (c : Command) → stored.sound store ≡ true → isLow c ≡ true → every encodableReport (reportedIn scope store c) ≡ true
+unfolding reported every
+encodable-report scope store c sound low = by-scope (selected scope (commandNumber c))
+  where
+    by-answer : (silent is-known : Bool) → known (commandNumber c) ≡ is-known
+        → every encodableReport (reportAs (cond silent Unanswered (cond is-known Value Unknown)) store c) ≡ true
+    by-answer true is-known e = refl
+    by-answer false false e = rw low
+    by-answer false true e =
+        let lengths = held-length store (commandNumber c) sound e in
+        all-true _ _ _ true low
+        (le-leb (length (valueOf store (commandNumber c))) 255 (omega (arith, lengths .1)))
+        (le-leb 1 (length (valueOf store (commandNumber c))) (lengths .0))
+        refl
+
+    by-scope : (chosen : Bool) → every encodableReport (cond chosen (reported store c) []) ≡ true
+    by-scope true = by-answer (eqb (c .function) 2) (known (commandNumber c)) refl
+    by-scope false = refl
+
+encodable-join : (rs qs : List Report) → every encodableReport rs ≡ true → every encodableReport qs ≡ true → every encodableReport (rs ++ qs) ≡ true
+unfolding every
+encodable-join [] qs p q = q
+encodable-join (r ∷ rs) qs p q =
+    let both = both-true (encodableReport r) (every encodableReport rs) p in
+    λ i. both .0 i && encodable-join rs qs (both .1) q i
+
+encodable-reports : (scope : Scope) (cs : List Command) (store : Store) → Fit store → every isLow cs ≡ true → every encodableReport (runReportsIn scope store cs) ≡ true
+unfolding runReportsIn every
+encodable-reports scope [] store fit h = refl
+encodable-reports scope (c ∷ cs) store fit h =
+    let both = both-true (isLow c) (every isLow cs) h in
+    let next : Fit (afterCommand store c) = fit-after store c fit in
+    encodable-join (reportedIn scope (afterCommand store c) c) _
+    (encodable-report scope (afterCommand store c) c (next .sound) (both .0))
+    (encodable-reports scope cs (afterCommand store c) next (both .1))
+
+-- no report is written in no bytes
+some-body : (r : Report) → 1 ≤ length (reportBody r)
+some-body (held page low value) = by-form (eqb (length value) 1)
+  where
+    by-form : (short : Bool) → 1 ≤ length (cond short (low ∷ value) (0xFE ∷ length value ∷ low ∷ value))
+    by-form true = omega arith
+    by-form false = omega arith
+some-body (unknown page low) = omega arith
+
+some-bytes : (page : ℕ) (r : Report) (rs : List Report) → 1 ≤ length (encodeReports page (r ∷ rs))
+unfolding encodeReport encodeReports
+some-bytes page r rs =
+    omega (
+      arith,
+      length-append (encodeReport page r) (encodeReports (reportPage r) rs),
+      length-append (change 0xFF page (reportPage r)) (reportBody r),
+      some-body r,
+    )
+
+-- the response with a data block
+abbrev sent : Request → List ℕ → Frame
+sent r block = frame (r .board .id) (r .frame .password) 0x06 block
+
+abbrev sending : Board → Request → List ℕ → List ℕ → Outcome
+sending next r block buffer = outcomeOf next (Response (length (packetOf (sent r block)))) (overwrite buffer 0 (packetOf (sent r block)))
+
+-- what the definition makes of reports
+abbrev answerAs : List Report → Board → Request → List ℕ → Outcome
+answerAs [] next r buffer = outcomeOf next Silence buffer
+answerAs (first ∷ rest) next r buffer = sending next r (encodeReports 0 (first ∷ rest)) buffer
+
+abbrev responding : List Report → Board → Request → List ℕ → Outcome
+responding reports next r buffer =
+    cond (ltb 256 (packetLength (sent r (encodeReports 0 reports)))) (refusedWith 12 r buffer) (answerAs reports next r buffer)
+
+-- what the code makes of a block of this length
+abbrev writing : ℕ → List ℕ → Board → Request → List ℕ → Outcome
+writing size block next r buffer =
+    cond (eqb size 0) (outcomeOf next Silence buffer) (cond (writable (sent r block) buffer) (sending next r block buffer) (refusedWith 12 r buffer))
+
+-- and what it has after the commands: their reports, or the store as it was
+abbrev ranFor : Bool → List Report → Store → Request → Ran
+ranFor fit reports next r = cond fit (ranOf next (extended blank reports)) (ranOf (r .board .store) (exceeded blank))
+
+taken-blank : (reports : List Report) → every encodableReport reports ≡ true → taken blank reports ≡ leb (length (encodeReports 0 reports)) 232
+taken-blank reports encodable = λ i. encodable i && leb (zero-add (length (encodeReports 0 reports)) i) (length-replicate {A = ℕ} 232 0 i)
+
+written-block : (bytes : List ℕ) → take (0 + length bytes) (overwrite (replicate 232 0) 0 bytes) ≡ bytes
+written-block bytes = take-at bytes (drop (0 + length bytes) (replicate 232 0)) (0 + length bytes) (sym (zero-add (length bytes)))
+
+some-commands : (o : Option (List Command)) → not (isSome o) ≡ false → (cs : List Command) × (o ≡ some cs)
+some-commands none h = let impossible : _≡_ {A = ℕ} 0 1 = cc in absurd (omega arith)
+some-commands (some cs) h = (cs, refl)
+
+module _ (r : Request) (buffer : List ℕ) (legal : sound (r .board) ≡ true) (short : length (r .frame .password) ≤ 8) (room : 256 ≤ length buffer) where
+  writable-by : (block : List ℕ) (long : Bool) → ltb 256 (packetLength (sent r block)) ≡ long → writable (sent r block) buffer ≡ not long
+  writable-by block true e =
+      λ i. eq-eqb _ _ (id-length (r .board) legal) i && le-leb _ _ short i && lt-leb (packetLength (sent r block)) 256 (ltb-true 256 (packetLength (sent r block)) e) i
+      && fits buffer 0 (packetOf (sent r block))
+  writable-by block false e =
+      let fit : packetLength (sent r block) ≤ 256 = ltb-false 256 (packetLength (sent r block)) e in
+      let within : 0 + length (packetOf (sent r block)) ≤ length buffer = omega (arith, length-packet (sent r block), id-length (r .board) legal) in
+      all-true _ _ _ _ (eq-eqb _ _ (id-length (r .board) legal)) (le-leb _ _ short) (le-leb _ _ fit) (le-leb _ _ within)
+
+  -- the written block by the reports in it
+  writing-reports :
+      (reports : List Report) (next : Board)
+      → writing (length (encodeReports 0 reports)) (encodeReports 0 reports) next r buffer ≡ responding reports next r buffer
+  unfolding encodeReports
+  writing-reports [] next = sym (rw (le-ltb 256 (24 + length (r .frame .password) + 0) (omega arith)))
+  writing-reports (first ∷ rest) next =
+      let bytes : List ℕ = encodeReports 0 (first ∷ rest) in
+      let some : eqb (length bytes) 0 ≡ false = ne-eqb (length bytes) 0 (λ (e : length bytes ≡ 0). omega (arith, some-bytes 0 first rest)) in
+      let goes = writable-by bytes (ltb 256 (packetLength (sent r bytes))) refl in
+      (λ i. cond (some i) (outcomeOf next Silence buffer) (cond (goes i) (sending next r bytes buffer) (refusedWith 12 r buffer)))
+      ∙ by-length (ltb 256 (packetLength (sent r bytes)))
+    where
+      by-length :
+          (long : Bool) → cond (not long) (answerAs (first ∷ rest) next r buffer) (refusedWith 12 r buffer)
+          ≡ cond long (refusedWith 12 r buffer) (answerAs (first ∷ rest) next r buffer)
+      by-length true = refl
+      by-length false = refl
+
+  -- the commands were run, or their reports had no room
+  module _ (reports : List Report) (next : Store) where
+    run-by :
+        (fit : Bool) → leb (length (encodeReports 0 reports)) 232 ≡ fit
+        → respondedWith (ranFor fit reports next r) r buffer ≡ responding reports (withStore (r .board) next) r buffer
+    run-by true e =
+        (λ i. writing (zero-add (length (encodeReports 0 reports)) i) (written-block (encodeReports 0 reports) i) (withStore (r .board) next) r buffer)
+        ∙ writing-reports reports (withStore (r .board) next)
+    run-by false e =
+        let long : 256 < packetLength (sent r (encodeReports 0 reports)) = omega (arith, leb-false (length (encodeReports 0 reports)) 232 e) in
+        sym (ap (λ (t : Bool). cond t (refusedWith 12 r buffer) (answerAs reports (withStore (r .board) next) r buffer)) (lt-ltb _ _ long))
+
+    -- what the definition says, by the reports and the next record
+    defined :
+        reportsOf r ≡ reports → nextBoard r ≡ withStore (r .board) next
+        → outcomeBy (cond (longResponse r) (some 12) none) r buffer ≡ responding reports (withStore (r .board) next) r buffer
+    defined e n =
+        by-length (longResponse r)
+        ∙ (λ i. cond (ltb 256 (packetLength (sent r (encodeReports 0 (e i))))) (refusedWith 12 r buffer) (by-reports reports e i))
+      where
+        by-length : (long : Bool) → outcomeBy (cond long (some 12) none) r buffer ≡ cond long (refusedWith 12 r buffer) (answerWith (reportsOf r) r buffer)
+        by-length true = refl
+        by-length false = refl
+
+        by-reports : (rs : List Report) → reportsOf r ≡ rs → answerWith (reportsOf r) r buffer ≡ answerAs rs (withStore (r .board) next) r buffer
+        by-reports [] p = ap (λ (rs : List Report). answerWith rs r buffer) p ∙ (λ i. outcomeOf (n i) Silence buffer)
+        by-reports (first ∷ rest) p =
+            ap (λ (rs : List Report). answerWith rs r buffer) p ∙ (λ i. sending (n i) r (encodeReports 0 (p i)) buffer)
+
+  module _ (sized : Sized (r .board .store)) where
+    store-fit : Fit (r .board .store)
+    store-fit = record { size = sized; sound = sound-parts (r .board) legal .held }
+
+    -- the commands of a block that is run
+    run-responds :
+        (scope : Scope) (cs : List Command) → decoded r ≡ some cs → reportsOf r ≡ runReportsIn scope (r .board .store) cs
+        → nextBoard r ≡ withStore (r .board) (run (r .board .store) cs)
+        → responded scope r buffer ≡ outcomeBy (cond (longResponse r) (some 12) none) r buffer
+    run-responds scope cs e reports next =
+        let said : List Report = runReportsIn scope (r .board .store) cs in
+        let encodable : every encodableReport said ≡ true =
+        encodable-reports scope cs (r .board .store) store-fit (low-bytes (r .frame .function) (r .frame .block) cs e) in
+        ap (λ (o : Option (List Command)). respondedWith (ranBehind (ranOf (r .board .store) (exceeded blank)) scope (r .board .store) blank o) r buffer) e
+        ∙ ap (λ (fit : Bool). respondedWith (ranFor fit said (run (r .board .store) cs) r) r buffer) (taken-blank said encodable)
+        ∙ run-by said (run (r .board .store) cs) (leb (length (encodeReports 0 said)) 232) refl
+        ∙ sym (defined said (run (r .board .store) cs) reports next)
+
+    reports-by : {discovery : Bool} {cs : List Command} → isDiscovery r ≡ discovery → decoded r ≡ some cs
+        → reportsOf r ≡ cond discovery (discoverReports (r .board .id) cs) (runReports (r .board .store) cs)
+    reports-by d e =
+        λ i. cond (d i) (discoverReports (r .board .id) (Option·getD (e i) [])) (runReports (r .board .store) (Option·getD (e i) []))
+
+    next-by : {discovery : Bool} {cs : List Command} → isDiscovery r ≡ discovery → decoded r ≡ some cs
+        → nextBoard r ≡ cond discovery (r .board) (withStore (r .board) (run (r .board .store) cs))
+    next-by d e = λ i. cond (d i) (r .board) (withStore (r .board) (run (r .board .store) (Option·getD (e i) [])))
+
+    responds-by :
+        (discovery : Bool) → isDiscovery r ≡ discovery → malformed r ≡ false
+        → (discovery && not (onlyReads (r .frame .function) (r .frame .block))) ≡ false
+        → responded (scopeOf discovery) r buffer ≡ outcomeBy (cond (longResponse r) (some 12) none) r buffer
+    responds-by true d formed reads =
+        let (cs, e, all) = all-reads (r .frame .function) (r .frame .block) (not-false _ reads) in
+        let parts = sound-parts (r .board) legal in
+        run-responds Identity cs e
+        (reports-by d e ∙ sym (identity-reports (r .board .id) (r .board .store) (parts .own-id) (parts .unit-type) cs all))
+        (next-by d e ∙ ap (withStore (r .board)) (sym (reads-keep cs (r .board .store) all)))
+    responds-by false d formed reads =
+        let (cs, e) = some-commands (decoded r) formed in
+        run-responds All cs e (reports-by d e ∙ sym (all-reports cs (r .board .store))) (next-by d e)
+
+    behind-nine :
+        (block-malformed discovery-writes : Bool) → malformed r ≡ block-malformed → discoveryWrites r ≡ discovery-writes
+        → cond block-malformed (refusedWith 10 r buffer) (cond discovery-writes (refusedWith 11 r buffer) (responded (scopeOf (isDiscovery r)) r buffer))
+        ≡ outcomeBy (cond block-malformed (some 10) (cond discovery-writes (some 11) (cond (longResponse r) (some 12) none))) r buffer
+    behind-nine true discovery-writes m w = refl
+    behind-nine false true m w = refl
+    behind-nine false false m w = responds-by (isDiscovery r) refl m w
+
+    by-front :
+        (id-other password-wrong function-wrong : Bool) (behind : Option ℕ)
+        → cond id-other (refusedWith 7 r buffer) (cond password-wrong (refusedWith 8 r buffer) (cond function-wrong (refusedWith 9 r buffer) (outcomeBy behind r buffer)))
+        ≡ outcomeBy (cond id-other (some 7) (cond password-wrong (some 8) (cond function-wrong (some 9) behind))) r buffer
+    by-front true password-wrong function-wrong behind = refl
+    by-front false true function-wrong behind = refl
+    by-front false false true behind = refl
+    by-front false false false behind = refl
+
+    by-checks : answered r buffer ≡ outcomeBy (firstRefusal requestRefusals r) r buffer
+    unfolding answered
+    by-checks =
+        ap (λ (o : Outcome). cond (otherId r) (refusedWith 7 r buffer) (cond (wrongPassword r) (refusedWith 8 r buffer) (cond (wrongFunction r) (refusedWith 9 r buffer) o)))
+        (behind-nine (malformed r) (discoveryWrites r) refl refl)
+        ∙ by-front (otherId r) (wrongPassword r) (wrongFunction r) _
+        ∙ ap (λ (o : Option ℕ). outcomeBy o r buffer) (sym (request-refusal-by r refl refl refl refl refl refl))
+
+pub answered-outcome :
+    (r : Request) (buffer : List ℕ) → sound (r .board) ≡ true → Sized (r .board .store) → length (r .frame .password) ≤ 8 → 256 ≤ length buffer
+    → answered r buffer ≡ outcomeBy (firstRefusal requestRefusals r) r buffer
+answered-outcome r buffer legal sized short room = by-checks r buffer legal short room sized

@@ -1,0 +1,18 @@
+-- `board::records::in_eight` meets its contract.
+use denote.Ref.{now}
+use Rattle.board.proofs.Starting.{laid-by}
+use borrow.Author.Needs.{needs}
+use Rattle.board.proofs.records.in_eight.Statement.{statement}
+use Rattle.board.proofs.records.in_eight.Tie as tie
+
+slice-aggregate-overwrite : tie.Need-slice-aggregate-overwrite
+slice-aggregate-overwrite c = search needs
+
+overwrite-requires : tie.Need-overwrite-requires
+overwrite-requires c κs = search needs
+
+returns : tie.Need-returns
+returns c = laid-by 8 (now (c .before .before .before .before .args .bytes)) (c .before .overwrite .ensures)
+
+pub in-eight-spec : {M : Type 1} → statement M
+in-eight-spec = tie.close (tie.spec slice-aggregate-overwrite overwrite-requires returns)

@@ -1,0 +1,69 @@
+-- `board::records::measure` meets its contract.
+use mathlib.Core.Path.{_≡_, refl, sym, ap, _∙_}
+use denote.Ref.{now}
+use Rattle.store.specs.declared.Store.{Store}
+use Rattle.board.specs.Measurement.{measureCall}
+use Rattle.board.specs.Record.{withStore}
+use Rattle.board.specs.declared.Verdict.the-variants.{Refused}
+use Rattle.board.proofs.Checking.{passed, failed}
+use Rattle.board.proofs.Starting.{measure-refusal-by, measure-refused, measure-accepted, measured-as}
+use borrow.Author.Needs.{needs}
+use Rattle.board.proofs.records.measure.Statement.{statement}
+use Rattle.board.proofs.records.measure.Tie as tie
+
+check-record-requires : tie.Need-check-record-requires
+check-record-requires c κs = search needs
+
+enum-told : tie.Need-enum-told
+enum-told c = search needs
+
+enum-told-2 : tie.Need-enum-told-2
+enum-told-2 c = search needs
+
+returns : tie.Need-returns
+returns c =
+    let args = c .before .before .before .before .args in
+    let call = measureCall (args .board) (args .number) (now (args .value)) in
+    measured-as call (measure-refusal-by call (failed _ (c .before .before .check-record .ensures) (c .enum-told2 .given .1)) refl refl) refl refl
+
+measure-requires : tie.Need-measure-requires
+measure-requires c κs = search needs
+
+enum-told-3 : tie.Need-enum-told-3
+enum-told-3 c = search needs
+
+number-of-requires : tie.Need-number-of-requires
+number-of-requires c κs = search needs
+
+returns-2 : tie.Need-returns-2
+returns-2 c =
+    let args = c .before .before .before .before .before .before .before .args in
+    let call = measureCall (args .board) (args .number) (now (args .value)) in
+    let right = passed _ (c .before .before .before .before .before .check-record .ensures) (c .before .before .before .enum-told .given .1) in
+    measured-as call (measure-refused call right (c .before .before .measure .ensures .answered) (c .before .match2 .keys2)) (ap Refused (c .number-of .ensures)) refl
+
+with-store-requires : tie.Need-with-store-requires
+with-store-requires c κs = search needs
+
+returns-3 : tie.Need-returns-3
+returns-3 c =
+    let args = c .before .before .before .before .before .before .before .before .before .args in
+    let call = measureCall (args .board) (args .number) (now (args .value)) in
+    let right = passed _ (c .before .before .before .before .before .before .before .check-record .ensures) (c .before .before .before .before .before .enum-told .given .1) in
+    measured-as call (measure-accepted call right (c .before .before .before .before .measure .ensures .answered) (c .before .before .enum-told3 .given .1)) refl
+    (c .with-store .ensures ∙ ap (withStore (args .board)) (c .before .before .before .before .measure .ensures .held))
+
+pub measure-spec : {M : Type 1} → statement M
+measure-spec =
+    tie.close
+    (tie.spec
+    check-record-requires
+    enum-told
+    enum-told-2
+    returns
+    measure-requires
+    enum-told-3
+    number-of-requires
+    returns-2
+    with-store-requires
+    returns-3)

@@ -1,0 +1,92 @@
+-- How the code goes through a call: the answers of its checks, and what it makes of a request.
+use Prim.Native.Nat.{ℕ, _-_}
+use mathlib.Core.Bool.{Bool, true, false, cond, not, _&&_}
+use mathlib.Core.List.{List, [], _∷_, _++_}
+use mathlib.Core.Path.{_≡_}
+use lib.Dec.{leb, eqb}
+use lib.ListN.{length, take, replicate}
+use Rattle.octets.specs.Octets.{overwrite}
+use Rattle.framing.specs.Frame.{Frame, frame, packetOf}
+use Rattle.framing.specs.Packet.{writable}
+use Rattle.framing.specs.declared.Parsed.{Parsed}
+use Rattle.framing.specs.declared.Parsed.the-variants.{Frame as Places, Refused as Not}
+use Rattle.store.specs.Start.{start}
+use Rattle.board.specs.Draft.{ranBlock}
+use Rattle.board.specs.Record.{withStore}
+use Rattle.board.specs.Step.{Request, Outcome, outcomeOf, isDiscovery, otherId, wrongPassword, wrongFunction, malformed, discoveryWrites}
+use Rattle.board.specs.declared.Answer.the-variants.{Refused, Silence, Response}
+use Rattle.board.specs.declared.Board.{Board}
+use Rattle.board.specs.declared.Stepped.{Stepped}
+use Rattle.board.specs.declared.checks.Check.{Check}
+use Rattle.board.specs.declared.checks.Check.the-variants.{Passed, Failed}
+use Rattle.board.specs.declared.commands.Ran.{Ran}
+use Rattle.board.specs.declared.commands.Scope.{Scope}
+use Rattle.board.specs.declared.commands.Scope.the-variants.{All, Identity}
+use Rattle.board.specs.declared.draft.Room.{Room}
+use Rattle.board.specs.declared.draft.Room.the-variants.{Left, Over}
+
+abbrev pub checked : Bool → Check
+checked wrong = cond wrong Failed Passed
+
+abbrev pub scopeOf : Bool → Scope
+scopeOf discovery = cond discovery Identity All
+
+abbrev pub inIdentity : Scope → Bool
+inIdentity All = false
+inIdentity Identity = true
+
+-- the number of a refused packet
+abbrev pub numberIn : Parsed → ℕ
+numberIn (Places places) = 0
+numberIn (Not number) = number
+
+-- bytes in an array of a size, the rest zero
+abbrev pub laid : ℕ → List ℕ → List ℕ
+laid size bytes = cond (leb (length bytes) size) (bytes ++ replicate (size - length bytes) 0) (replicate size 0)
+
+abbrev pub recordOf : List ℕ → List ℕ → ℕ → Board
+recordOf id password mode =
+    record {
+      id = laid 16 id;
+      password = laid 8 password;
+      size = length (cond (leb (length password) 8) password []);
+      mode = mode;
+      store = start (laid 16 id);
+    }
+
+abbrev pub refusedWith : ℕ → Request → List ℕ → Outcome
+refusedWith number r buffer = outcomeOf (r .board) (Refused number) buffer
+
+-- the response to commands that were run
+abbrev pub responseOf : Ran → Request → Frame
+responseOf ran r = frame (r .board .id) (r .frame .password) 0x06 (take (ran .draft .length) (ran .draft .bytes))
+
+abbrev pub respondedIn : Room → Ran → Request → List ℕ → Outcome
+respondedIn Over ran r buffer = refusedWith 12 r buffer
+respondedIn Left ran r buffer =
+    cond (eqb (ran .draft .length) 0) (outcomeOf (withStore (r .board) (ran .store)) Silence buffer)
+    (cond (writable (responseOf ran r) buffer)
+    (outcomeOf (withStore (r .board) (ran .store)) (Response (length (packetOf (responseOf ran r)))) (overwrite buffer 0 (packetOf (responseOf ran r))))
+    (refusedWith 12 r buffer))
+
+abbrev pub respondedWith : Ran → Request → List ℕ → Outcome
+respondedWith ran r buffer = respondedIn (ran .draft .room) ran r buffer
+
+abbrev pub responded : Scope → Request → List ℕ → Outcome
+responded scope r buffer = respondedWith (ranBlock scope (r .board .store) (r .frame .function) (r .frame .block)) r buffer
+
+-- a request: the checks 7 to 11, then the response or 12
+unfoldable pub answered : Request → List ℕ → Outcome
+answered r buffer =
+    cond (otherId r) (refusedWith 7 r buffer)
+    (cond (wrongPassword r) (refusedWith 8 r buffer)
+    (cond (wrongFunction r) (refusedWith 9 r buffer)
+    (cond (malformed r) (refusedWith 10 r buffer)
+    (cond (discoveryWrites r) (refusedWith 11 r buffer)
+    (responded (scopeOf (isDiscovery r)) r buffer)))))
+
+-- what a function over a lent buffer returned and left is this outcome
+pub record Leaves (outcome : Outcome) (result : Stepped) (after : List ℕ) : Type 0 where
+  pub board : result .board ≡ outcome .board
+  pub answer : result .answer ≡ outcome .answer
+  pub buffer : after ≡ outcome .buffer

@@ -1,0 +1,22 @@
+-- Which packets bear a password, and which are discoveries.
+use Prim.Native.Nat.{ℕ}
+use mathlib.Core.Bool.{Bool, not, _&&_}
+use mathlib.Core.List.{List}
+use lib.Dec.{eqb}
+use Rattle.octets.specs.Octets.{same}
+use Rattle.framing.specs.Identity.{defaultId}
+use Rattle.framing.specs.Packet.{packetRefusal, frameOf}
+use Rattle.block.specs.Reading.{isSome}
+use Rattle.board.specs.Record.{client}
+
+-- the packet passes 2 to 6
+abbrev pub passes : List ℕ → Bool
+passes packet = not (isSome (packetRefusal packet))
+
+-- such a packet bears the password of its password block, any other none
+abbrev pub bears : List ℕ → List ℕ → Bool
+bears packet password = passes packet && same (frameOf packet .password) password
+
+-- a discovery (the search of document 01) where this mode is in force
+abbrev pub discovers : ℕ → List ℕ → Bool
+discovers mode packet = passes packet && (eqb mode client && same (frameOf packet .id) defaultId)

@@ -1,0 +1,45 @@
+-- What a measurement does.
+use Prim.Native.Nat.{ℕ}
+use mathlib.Core.Bool.{not}
+use mathlib.Core.List.{List, [], _∷_}
+use mathlib.Core.Option.{Option, none, some}
+use mathlib.Core.Path.{_≡_}
+use lib.Dec.{eqb}
+use lib.ListN.{length}
+use Rattle.framing.specs.Refusal.{Refusal, refusal, firstRefusal}
+use Rattle.store.specs.Layout.{sizeOf}
+use Rattle.store.specs.Operations.{measurable, measured}
+use Rattle.store.specs.Rows.{rowOf}
+use Rattle.board.specs.Record.{sound, verdictOf, withStore}
+use Rattle.board.specs.declared.Answered.{Answered}
+use Rattle.board.specs.declared.Board.{Board}
+
+pub record MeasureCall : Type 0 where
+  pub board : Board
+  pub number : ℕ
+  pub value : List ℕ
+
+abbrev pub measureCall : Board → ℕ → List ℕ → MeasureCall
+measureCall board number value = record { board = board; number = number; value = value }
+
+unfoldable pub measureRefusals : List (Refusal MeasureCall)
+measureRefusals =
+    refusal 70 (λ (c : MeasureCall). not (sound (c .board)))
+    ∷ refusal 30 (λ (c : MeasureCall). not (measurable (c .number)))
+    ∷ refusal 31 (λ (c : MeasureCall). not (eqb (length (c .value)) (sizeOf (rowOf (c .number) .set))))
+    ∷ []
+
+unfoldable pub measureRefusal : MeasureCall → Option ℕ
+measureRefusal c = firstRefusal measureRefusals c
+
+abbrev pub measuredBy : Option ℕ → MeasureCall → Board
+measuredBy none c = withStore (c .board) (measured (c .board .store) (c .number) (c .value))
+measuredBy (some number) c = c .board
+
+unfoldable pub measuredBoard : MeasureCall → Board
+measuredBoard c = measuredBy (measureRefusal c) c
+
+-- the contract of `measure`
+pub record MeasuresBoard (c : MeasureCall) (result : Answered) : Type 0 where
+  pub answered : result .verdict ≡ verdictOf (measureRefusal c)
+  pub board : result .board ≡ measuredBoard c

@@ -1,0 +1,102 @@
+-- A board's record, set-up, and which records are sound.
+use Prim.Native.Nat.{ℕ, _-_}
+use mathlib.Core.Bool.{Bool, not, _&&_, _||_}
+use mathlib.Core.List.{List, [], _∷_, _++_}
+use mathlib.Core.Option.{Option, none, some}
+use mathlib.Core.Path.{_≡_}
+use lib.Dec.{leb, eqb}
+use lib.ListN.{length, take, replicate}
+use Rattle.octets.specs.Octets.{same}
+use Rattle.framing.specs.Identity.{defaultId, allAlphanumeric, isPassword}
+use Rattle.framing.specs.Refusal.{Refusal, refusal, firstRefusal}
+use Rattle.store.specs.declared.Store.{Store}
+use Rattle.store.specs.Layout.{valueOf}
+use Rattle.store.specs.Sound as rows
+use Rattle.store.specs.Start.{start}
+use Rattle.board.specs.declared.Answered.{Answered}
+use Rattle.board.specs.declared.Board.{Board}
+use Rattle.board.specs.declared.Verdict.{Verdict}
+use Rattle.board.specs.declared.Verdict.the-variants.{Accepted, Refused}
+
+-- the number of a refusal, none where the call is accepted
+abbrev pub verdictOf : Option ℕ → Verdict
+verdictOf none = Accepted
+verdictOf (some number) = Refused number
+
+-- the mode in force: client or access point
+abbrev pub client : ℕ
+client = 1
+
+abbrev pub accessPoint : ℕ
+accessPoint = 2
+
+abbrev pub isMode : ℕ → Bool
+isMode mode = eqb mode client || eqb mode accessPoint
+
+-- an ID of a board: 16 bytes, and not the default ID
+abbrev pub isId : List ℕ → Bool
+isId id = eqb (length id) 16 && not (same id defaultId)
+
+-- the unit type that row 00B9 holds
+abbrev pub micra : List ℕ
+micra = 2 ∷ 0 ∷ []
+
+abbrev pub passwordOf : Board → List ℕ
+passwordOf board = take (board .size) (board .password)
+
+abbrev pub withStore : Board → Store → Board
+withStore board store =
+    record { id = board .id; password = board .password; size = board .size; mode = board .mode; store = store }
+
+-- what set-up is given
+pub record SetUp : Type 0 where
+  pub id : List ℕ
+  pub password : List ℕ
+  pub mode : ℕ
+
+abbrev pub setUp : List ℕ → List ℕ → ℕ → SetUp
+setUp id password mode = record { id = id; password = password; mode = mode }
+
+unfoldable pub setUpRefusals : List (Refusal SetUp)
+setUpRefusals =
+    refusal 20 (λ (given : SetUp). not (isId (given .id)))
+    ∷ refusal 21 (λ (given : SetUp). not (isPassword (given .password)))
+    ∷ refusal 22 (λ (given : SetUp). not (isMode (given .mode)))
+    ∷ []
+
+unfoldable pub setUpRefusal : SetUp → Option ℕ
+setUpRefusal given = firstRefusal setUpRefusals given
+
+-- the start record
+abbrev pub startBoard : SetUp → Board
+startBoard given =
+    record {
+      id = given .id;
+      password = given .password ++ replicate (8 - length (given .password)) 0;
+      size = length (given .password);
+      mode = given .mode;
+      store = start (given .id);
+    }
+
+-- what a refused set-up returns the start record of
+abbrev pub unset : SetUp
+unset = setUp (replicate 16 0) [] client
+
+abbrev pub boardOf : Option ℕ → SetUp → Board
+boardOf none given = startBoard given
+boardOf (some number) given = startBoard unset
+
+unfoldable pub setUpBoard : SetUp → Board
+setUpBoard given = boardOf (setUpRefusal given) given
+
+-- the contract of `set_up`
+pub record SetsUp (given : SetUp) (result : Answered) : Type 0 where
+  pub answered : result .verdict ≡ verdictOf (setUpRefusal given)
+  pub made : result .board ≡ setUpBoard given
+
+-- refusal 70 where a record is not sound: set-up would refuse its ID, password or mode, a row is outside its set, or 007C or 00B9
+-- differ from the identity
+unfoldable pub sound : Board → Bool
+sound board =
+    isId (board .id) && leb (board .size) 8 && allAlphanumeric (passwordOf board) && isMode (board .mode)
+    && rows.sound (board .store) && same (valueOf (board .store) 0x007C) (board .id) && same (valueOf (board .store) 0x00B9) micra

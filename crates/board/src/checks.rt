@@ -1,0 +1,132 @@
+// The checks of the board's calls, each the condition of one refusal.
+use super::commands::Scope;
+ghost use mathlib.Core.Bool.{not, _&&_, _||_};
+ghost use mathlib.Core.Path.{_≡_};
+ghost use lib.Dec.{eqb, leb, ltb};
+ghost use Rattle.octets.specs.Octets.{same};
+ghost use Rattle.framing.specs.Identity.{defaultId, isPassword};
+ghost use Rattle.block.specs.Reading.{isSome};
+ghost use Rattle.block.specs.Request.{commands, onlyReads};
+ghost use Rattle.board.specs.Answering.{checked, scopeOf, inIdentity};
+ghost use Rattle.board.specs.Record.{client, isId, isMode};
+
+pub enum Check {
+    Passed,
+    Failed,
+}
+
+// 20: an ID of 16 bytes that is not the default ID.
+pub(crate) fn check_id(id: &[u8]) -> Check
+    ensures { λ r. ⌜ r ≡ checked (not (isId (now (id .entry)))) ⌝ }
+{
+    if id.len() != 16 {
+        return Check::Failed;
+    }
+    if framing::is_default_id(id) {
+        return Check::Failed;
+    }
+    Check::Passed
+}
+
+// 21
+pub(crate) fn check_new_password(password: &[u8]) -> Check
+    ensures { λ r. ⌜ r ≡ checked (not (isPassword (now (password .entry)))) ⌝ }
+{
+    if framing::is_password(password) {
+        return Check::Passed;
+    }
+    Check::Failed
+}
+
+// 22
+pub(crate) fn check_mode(mode: u8) -> Check
+    ensures { λ r. ⌜ r ≡ checked (not (isMode mode)) ⌝ }
+{
+    match mode {
+        1 => Check::Passed,
+        2 => Check::Passed,
+        _ => Check::Failed,
+    }
+}
+
+// 1
+pub(crate) fn check_buffer(length: usize) -> Check
+    ensures { λ r. ⌜ r ≡ checked (ltb length 256) ⌝ }
+{
+    if length < 256 {
+        return Check::Failed;
+    }
+    Check::Passed
+}
+
+// 7: the ID is the board's own or the default ID.
+pub(crate) fn check_address(own: &[u8], id: &[u8]) -> Check
+    ensures { λ r. ⌜ r ≡ checked (not (same (now (id .entry)) (now (own .entry)) || same (now (id .entry)) defaultId)) ⌝ }
+{
+    if octets::equal(id, own) {
+        return Check::Passed;
+    }
+    if framing::is_default_id(id) {
+        return Check::Passed;
+    }
+    Check::Failed
+}
+
+// Which parameters are open: in client mode the default ID asks for a discovery.
+pub(crate) fn scope_of(mode: u8, id: &[u8]) -> Scope
+    ensures { λ r. ⌜ r ≡ scopeOf (eqb mode client && same (now (id .entry)) defaultId) ⌝ }
+{
+    if mode != 1 {
+        return Scope::All;
+    }
+    if framing::is_default_id(id) {
+        return Scope::Identity;
+    }
+    Scope::All
+}
+
+// 8: a discovery compares no password.
+pub(crate) fn check_password(scope: Scope, own: &[u8], password: &[u8]) -> Check
+    ensures { λ r. ⌜ r ≡ checked (not (inIdentity scope) && not (same (now (password .entry)) (now (own .entry)))) ⌝ }
+{
+    let Scope::All = scope else {
+        return Check::Passed;
+    };
+    if octets::equal(password, own) {
+        return Check::Passed;
+    }
+    Check::Failed
+}
+
+// 9
+pub(crate) fn check_function(function: u8) -> Check
+    ensures { λ r. ⌜ r ≡ checked (not (leb 1 function && leb function 5)) ⌝ }
+{
+    match function {
+        1..=5 => Check::Passed,
+        _ => Check::Failed,
+    }
+}
+
+// 10
+pub(crate) fn check_block(function: u8, bytes: &[u8]) -> Check
+    ensures { λ r. ⌜ r ≡ checked (not (isSome (commands function (now (bytes .entry))))) ⌝ }
+{
+    if block::request::well_formed(bytes, function) {
+        return Check::Passed;
+    }
+    Check::Failed
+}
+
+// 11: a discovery only reads.
+pub(crate) fn check_reads(scope: Scope, function: u8, bytes: &[u8]) -> Check
+    ensures { λ r. ⌜ r ≡ checked (inIdentity scope && not (onlyReads function (now (bytes .entry)))) ⌝ }
+{
+    let Scope::Identity = scope else {
+        return Check::Passed;
+    };
+    if block::request::only_reads(bytes, function) {
+        return Check::Passed;
+    }
+    Check::Failed
+}

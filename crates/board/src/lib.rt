@@ -1,0 +1,67 @@
+// The board: set-up, packets and measurements over framing, block and store.
+mod checks;
+mod commands;
+mod draft;
+mod packets;
+mod records;
+
+use store::Store;
+ghost use Rattle.board.specs.Measurement.{MeasuresBoard, measureCall};
+ghost use Rattle.board.specs.Record.{SetsUp, setUp};
+ghost use Rattle.board.specs.Step.{Steps, call};
+
+// A board's record. The password is the first `size` bytes of `password`; `mode` is the mode in force.
+pub struct Board {
+    pub id: [u8; 16],
+    pub password: [u8; 8],
+    pub size: u8,
+    pub mode: u8,
+    pub store: Store,
+}
+
+// What set-up and a measurement are answered with.
+pub enum Verdict {
+    Accepted,
+    // The number of the refusal.
+    Refused(u8),
+}
+
+pub struct Answered {
+    pub board: Board,
+    pub verdict: Verdict,
+}
+
+// What a packet is answered with.
+pub enum Answer {
+    // The number of the refusal.
+    Refused(u8),
+    Silence,
+    // The length of the response.
+    Response(usize),
+}
+
+pub struct Stepped {
+    pub board: Board,
+    pub answer: Answer,
+}
+
+// Sets a board up with an ID, a password and the mode in force. A refused set-up gives a board too: zero ID, no password, client.
+pub fn set_up(id: &[u8], password: &[u8], mode: u8) -> Answered
+    ensures { λ r. ⌜ SetsUp (setUp (now (id .entry)) (now (password .entry)) mode) r ⌝ }
+{
+    records::set_up(id, password, mode)
+}
+
+// Takes a packet of any length. A response fills the first bytes of `response`; with any other answer the buffer stays as it was.
+pub fn packet(board: Board, packet: &[u8], response: &mut [u8]) -> Stepped
+    ensures { λ r. ⌜ Steps (call board (now (packet .entry)) (now (response .entry))) r (now (response .exit)) ⌝ }
+{
+    packets::packet(board, packet, response)
+}
+
+// Stores a measured value in its read-only row.
+pub fn measure(board: Board, number: u16, value: &[u8]) -> Answered
+    ensures { λ r. ⌜ MeasuresBoard (measureCall board number (now (value .entry))) r ⌝ }
+{
+    records::measure(board, number, value)
+}

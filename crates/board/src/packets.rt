@@ -1,0 +1,133 @@
+// What a packet is answered with.
+use super::Answer;
+use super::Board;
+use super::Stepped;
+use super::checks;
+use super::checks::Check;
+use super::commands;
+use super::commands::Scope;
+use super::draft::Room;
+use super::records;
+use framing::Parsed;
+use framing::Written;
+ghost use mathlib.Core.Path.{_≡_};
+ghost use Rattle.framing.specs.Frame.{frame};
+ghost use Rattle.board.specs.Answering.{Leaves, answered, numberIn, responded};
+ghost use Rattle.board.specs.Step.{Steps, call, requestOf};
+
+fn refused(board: Board, number: u8) -> Stepped
+    ensures { λ r. ⌜ (r .board ≡ board) × (r .answer ≡ Answer.Refused number) ⌝ }
+{
+    Stepped {
+        board,
+        answer: Answer::Refused(number),
+    }
+}
+
+// Runs the commands and writes the response, or refuses with 12.
+fn respond(
+    scope: Scope,
+    board: Board,
+    id: &[u8],
+    password: &[u8],
+    function: u8,
+    bytes: &[u8],
+    response: &mut [u8],
+) -> Stepped
+    ensures { λ r. ⌜ Leaves (responded scope (requestOf board (frame (now (id .entry)) (now (password .entry)) function (now (bytes .entry)))) (now (response .entry))) r (now (response .exit)) ⌝ }
+{
+    let ran = commands::run(scope, board.store, function, bytes);
+    let draft = ran.draft;
+    let room = draft.room;
+    let Room::Left = room else {
+        return refused(board, 12);
+    };
+    let next = records::with_store(board, ran.store);
+    let length = draft.length;
+    if length == 0 {
+        return Stepped {
+            board: next,
+            answer: Answer::Silence,
+        };
+    }
+    let own = board.id;
+    let reports = draft.bytes;
+    let Written::Length(written) = framing::write(response, &own, password, 6, &reports[..length])
+    else {
+        return refused(board, 12);
+    };
+    Stepped {
+        board: next,
+        answer: Answer::Response(written),
+    }
+}
+
+// The checks of a request, 7 to 11, and its response.
+fn answer(
+    board: Board,
+    id: &[u8],
+    password: &[u8],
+    function: u8,
+    bytes: &[u8],
+    response: &mut [u8],
+) -> Stepped
+    ensures { λ r. ⌜ Leaves (answered (requestOf board (frame (now (id .entry)) (now (password .entry)) function (now (bytes .entry)))) (now (response .entry))) r (now (response .exit)) ⌝ }
+{
+    let own = board.id;
+    let Check::Passed = checks::check_address(&own, id) else {
+        return refused(board, 7);
+    };
+    let scope = checks::scope_of(board.mode, id);
+    let Check::Passed = records::check_password(scope, board, password) else {
+        return refused(board, 8);
+    };
+    let Check::Passed = checks::check_function(function) else {
+        return refused(board, 9);
+    };
+    let Check::Passed = checks::check_block(function, bytes) else {
+        return refused(board, 10);
+    };
+    let Check::Passed = checks::check_reads(scope, function, bytes) else {
+        return refused(board, 11);
+    };
+    respond(scope, board, id, password, function, bytes, response)
+}
+
+fn number_of(parsed: Parsed) -> u8
+    ensures { λ r. ⌜ r ≡ numberIn parsed ⌝ }
+{
+    match parsed {
+        Parsed::Refused(number) => number,
+        Parsed::Frame(_) => 0,
+    }
+}
+
+pub(crate) fn packet(board: Board, packet: &[u8], response: &mut [u8]) -> Stepped
+    ensures { λ r. ⌜ Steps (call board (now (packet .entry)) (now (response .entry))) r (now (response .exit)) ⌝ }
+{
+    let Check::Passed = records::check_record(board) else {
+        return refused(board, 70);
+    };
+    let Check::Passed = checks::check_buffer(response.len()) else {
+        return refused(board, 1);
+    };
+    let parsed = framing::read(packet);
+    let Parsed::Frame(places) = parsed else {
+        return refused(board, number_of(parsed));
+    };
+    let from = places.id;
+    let until = from + 16;
+    let start = places.password;
+    let at = places.function;
+    let head = places.block;
+    let end = places.end;
+    let function = packet[at];
+    answer(
+        board,
+        &packet[from..until],
+        &packet[start..at],
+        function,
+        &packet[head..end],
+        response,
+    )
+}

@@ -1,0 +1,187 @@
+// A board's record: made by set-up, and judged by every call that takes one.
+use super::Answered;
+use super::Board;
+use super::Verdict;
+use super::checks;
+use super::checks::Check;
+use super::commands::Scope;
+use store::Measurement;
+use store::Store;
+ghost use mathlib.Core.Bool.{not, _&&_};
+ghost use mathlib.Core.Path.{_≡_};
+ghost use Rattle.octets.specs.Octets.{same};
+ghost use Rattle.store.specs.Layout.{valueOf};
+ghost use Rattle.store.specs.Operations.{refusalOf};
+ghost use Rattle.store.specs.Sound.{sound as rowsSound};
+ghost use Rattle.board.specs.Answering.{checked, inIdentity, laid, recordOf};
+ghost use Rattle.board.specs.Measurement.{MeasuresBoard, measureCall};
+ghost use Rattle.board.specs.Record.{SetsUp, micra, passwordOf, setUp, sound, startBoard, unset, withStore};
+
+fn in_sixteen(bytes: &[u8]) -> [u8; 16]
+    ensures { λ r. ⌜ r ≡ laid 16 (now (bytes .entry)) ⌝ }
+{
+    let mut array = [0u8; 16];
+    octets::overwrite(&mut array, 0, bytes);
+    array
+}
+
+fn in_eight(bytes: &[u8]) -> [u8; 8]
+    ensures { λ r. ⌜ r ≡ laid 8 (now (bytes .entry)) ⌝ }
+{
+    let mut array = [0u8; 8];
+    octets::overwrite(&mut array, 0, bytes);
+    array
+}
+
+// The start record of an ID of 16 bytes and a password of at most 8.
+fn start(id: &[u8], password: &[u8], mode: u8) -> Board
+    ensures { λ r. ⌜ r ≡ recordOf (now (id .entry)) (now (password .entry)) mode ⌝ }
+{
+    let own = in_sixteen(id);
+    let secret = in_eight(password);
+    if 8 < password.len() {
+        return Board {
+            id: own,
+            password: secret,
+            size: 0,
+            mode,
+            store: store::start(own),
+        };
+    }
+    Board {
+        id: own,
+        password: secret,
+        size: password.len() as u8,
+        mode,
+        store: store::start(own),
+    }
+}
+
+// A refused set-up still gives a board: a zero ID, no password, client.
+fn refused(number: u8) -> Answered
+    ensures { λ r. ⌜ (r .board ≡ startBoard unset) × (r .verdict ≡ Verdict.Refused number) ⌝ }
+{
+    let id = [0u8; 16];
+    let board = start(&id, b"", 1);
+    Answered {
+        board,
+        verdict: Verdict::Refused(number),
+    }
+}
+
+pub(crate) fn set_up(id: &[u8], password: &[u8], mode: u8) -> Answered
+    ensures { λ r. ⌜ SetsUp (setUp (now (id .entry)) (now (password .entry)) mode) r ⌝ }
+{
+    let Check::Passed = checks::check_id(id) else {
+        return refused(20);
+    };
+    let Check::Passed = checks::check_new_password(password) else {
+        return refused(21);
+    };
+    let Check::Passed = checks::check_mode(mode) else {
+        return refused(22);
+    };
+    let board = start(id, password, mode);
+    Answered {
+        board,
+        verdict: Verdict::Accepted,
+    }
+}
+
+// Whether each row is in its set, and 007C and 00B9 are as the identity says.
+fn check_rows(id: [u8; 16], store: Store) -> Check
+    ensures { λ r. ⌜ r ≡ checked (not (rowsSound store && same (valueOf store 0x007C) id && same (valueOf store 0x00B9) micra)) ⌝ }
+{
+    if !store::sound(store) {
+        return Check::Failed;
+    }
+    if !octets::equal(store::held(&store.bytes, 0x007C), &id) {
+        return Check::Failed;
+    }
+    if !octets::equal(store::held(&store.bytes, 0x00B9), b"\x02\x00") {
+        return Check::Failed;
+    }
+    Check::Passed
+}
+
+// 70
+pub(crate) fn check_record(board: Board) -> Check
+    ensures { λ r. ⌜ r ≡ checked (not (sound board)) ⌝ }
+{
+    let id = board.id;
+    let Check::Passed = checks::check_id(&id) else {
+        return Check::Failed;
+    };
+    let size = octets::wide(board.size);
+    if 8 < size {
+        return Check::Failed;
+    }
+    let password = board.password;
+    let Check::Passed = checks::check_new_password(&password[..size]) else {
+        return Check::Failed;
+    };
+    let Check::Passed = checks::check_mode(board.mode) else {
+        return Check::Failed;
+    };
+    check_rows(id, board.store)
+}
+
+// 8.
+pub(crate) fn check_password(scope: Scope, board: Board, password: &[u8]) -> Check
+    ensures { λ r. ⌜ r ≡ checked (not (inIdentity scope) && not (same (now (password .entry)) (passwordOf board))) ⌝ }
+{
+    let own = board.password;
+    let size = octets::wide(board.size);
+    if 8 < size {
+        return checks::check_password(scope, &own, password);
+    }
+    checks::check_password(scope, &own[..size], password)
+}
+
+pub(crate) fn with_store(board: Board, store: Store) -> Board
+    ensures { λ r. ⌜ r ≡ withStore board store ⌝ }
+{
+    let id = board.id;
+    let password = board.password;
+    Board {
+        id,
+        password,
+        size: board.size,
+        mode: board.mode,
+        store,
+    }
+}
+
+fn number_of(measurement: Measurement) -> u8
+    ensures { λ r. ⌜ r ≡ refusalOf measurement ⌝ }
+{
+    match measurement {
+        Measurement::Accepted => 0,
+        Measurement::NotMeasured => 30,
+        Measurement::WrongLength => 31,
+    }
+}
+
+pub(crate) fn measure(board: Board, number: u16, value: &[u8]) -> Answered
+    ensures { λ r. ⌜ MeasuresBoard (measureCall board number (now (value .entry))) r ⌝ }
+{
+    let Check::Passed = check_record(board) else {
+        return Answered {
+            board,
+            verdict: Verdict::Refused(70),
+        };
+    };
+    let measured = store::measure(board.store, number, value);
+    let answer = measured.answer;
+    let Measurement::Accepted = answer else {
+        return Answered {
+            board,
+            verdict: Verdict::Refused(number_of(answer)),
+        };
+    };
+    let store = measured.store;
+    Answered {
+        board: with_store(board, store),
+        verdict: Verdict::Accepted,
+    }
+}
