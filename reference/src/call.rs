@@ -1,0 +1,232 @@
+//! The calls of a call list: their written form and its strict reading.
+
+use std::fmt;
+
+use crate::block::Command;
+use crate::hex;
+
+/// The longest buffer that a call may ask for.
+pub const LONGEST_BUFFER: usize = 1024;
+
+/// One call of the list.
+#[derive(Clone, Debug, PartialEq, Eq)]
+pub enum Call {
+    Setup {
+        id: Vec<u8>,
+        password: Vec<u8>,
+        mode: u8,
+    },
+    Packet {
+        length: usize,
+        packet: Vec<u8>,
+    },
+    Measure {
+        number: u16,
+        value: Vec<u8>,
+    },
+    Record,
+    PokeRow {
+        number: u16,
+        value: Vec<u8>,
+    },
+    PokeId(Vec<u8>),
+    PokePassword(Vec<u8>),
+    PokeMode(u8),
+    Write {
+        length: usize,
+        id: Vec<u8>,
+        password: Vec<u8>,
+        commands: Vec<Command>,
+    },
+    Read {
+        id: Vec<u8>,
+        password: Vec<u8>,
+        packet: Vec<u8>,
+    },
+    List {
+        packet: Vec<u8>,
+    },
+}
+
+/// The call of a line; none if it has none of the forms.
+pub fn parse(line: &str) -> Option<Call> {
+    let fields: Vec<&str> = line.split(' ').collect();
+    match fields[..] {
+        ["setup", id, password, mode] => Some(Call::Setup {
+            id: hex::parse_field(id)?,
+            password: hex::parse_field(password)?,
+            mode: parse_byte(mode)?,
+        }),
+        ["packet", length, packet] => Some(Call::Packet {
+            length: parse_decimal(length, LONGEST_BUFFER)?,
+            packet: hex::parse_field(packet)?,
+        }),
+        ["measure", number, value] => Some(Call::Measure {
+            number: hex::parse_number(number)?,
+            value: hex::parse_field(value)?,
+        }),
+        ["record"] => Some(Call::Record),
+        ["poke", field, value] => parse_poke(field, value),
+        ["write", length, id, password, ref commands @ ..] => Some(Call::Write {
+            length: parse_decimal(length, LONGEST_BUFFER)?,
+            id: hex::parse_field(id)?,
+            password: hex::parse_field(password)?,
+            commands: commands
+                .iter()
+                .map(|command| parse_command(command))
+                .collect::<Option<_>>()?,
+        }),
+        ["read", id, password, packet] => Some(Call::Read {
+            id: hex::parse_field(id)?,
+            password: hex::parse_field(password)?,
+            packet: hex::parse_field(packet)?,
+        }),
+        ["list", packet] => Some(Call::List {
+            packet: hex::parse_field(packet)?,
+        }),
+        _ => None,
+    }
+}
+
+fn parse_poke(field: &str, value: &str) -> Option<Call> {
+    match field {
+        "id" => Some(Call::PokeId(hex::parse_field(value)?)),
+        "password" => Some(Call::PokePassword(hex::parse_field(value)?)),
+        "mode" => Some(Call::PokeMode(parse_byte(value)?)),
+        number => Some(Call::PokeRow {
+            number: hex::parse_number(number)?,
+            value: hex::parse_field(value)?,
+        }),
+    }
+}
+
+/// `F:NNNN:VALUE`.
+fn parse_command(field: &str) -> Option<Command> {
+    let parts: Vec<&str> = field.split(':').collect();
+    let [function, number, value] = parts[..] else {
+        return None;
+    };
+    Some(Command {
+        function: parse_byte(function)?,
+        number: hex::parse_number(number)?,
+        value: hex::parse_field(value)?,
+    })
+}
+
+/// Decimal digits without sign or leading zero, at most `limit`.
+fn parse_decimal(field: &str, limit: usize) -> Option<usize> {
+    let digits_only = field.bytes().all(|byte| byte.is_ascii_digit());
+    let leading_zero = field.len() > 1 && field.starts_with('0');
+    if !digits_only || leading_zero {
+        return None;
+    }
+    let number: usize = field.parse().ok()?;
+    (number <= limit).then_some(number)
+}
+
+fn parse_byte(field: &str) -> Option<u8> {
+    parse_decimal(field, 255).map(|number| number as u8)
+}
+
+impl fmt::Display for Call {
+    fn fmt(&self, output: &mut fmt::Formatter) -> fmt::Result {
+        match self {
+            Call::Setup { id, password, mode } => {
+                write!(output, "setup {} {mode}", identity(id, password))
+            }
+            Call::Packet { length, packet } => {
+                write!(output, "packet {length} {}", hex::field(packet))
+            }
+            Call::Measure { number, value } => {
+                write!(output, "measure {number:04X} {}", hex::field(value))
+            }
+            Call::Record => write!(output, "record"),
+            Call::PokeRow { number, value } => {
+                write!(output, "poke {number:04X} {}", hex::field(value))
+            }
+            Call::PokeId(id) => write!(output, "poke id {}", hex::field(id)),
+            Call::PokePassword(word) => write!(output, "poke password {}", hex::field(word)),
+            Call::PokeMode(mode) => write!(output, "poke mode {mode}"),
+            Call::Write {
+                length,
+                id,
+                password,
+                commands,
+            } => {
+                write!(output, "write {length} {}", identity(id, password))?;
+                commands
+                    .iter()
+                    .try_for_each(|command| write_command(output, command))
+            }
+            Call::Read {
+                id,
+                password,
+                packet,
+            } => write!(
+                output,
+                "read {} {}",
+                identity(id, password),
+                hex::field(packet)
+            ),
+            Call::List { packet } => write!(output, "list {}", hex::field(packet)),
+        }
+    }
+}
+
+fn identity(id: &[u8], password: &[u8]) -> String {
+    format!("{} {}", hex::field(id), hex::field(password))
+}
+
+fn write_command(output: &mut fmt::Formatter, command: &Command) -> fmt::Result {
+    let Command {
+        function,
+        number,
+        value,
+    } = command;
+    write!(output, " {function}:{number:04X}:{}", hex::field(value))
+}
+
+#[cfg(test)]
+mod tests {
+    use super::*;
+
+    #[test]
+    fn lines_are_read_and_written_alike() {
+        for line in [
+            "setup - - 0",
+            "setup 00 31313131 255",
+            "packet 0 -",
+            "packet 1024 FDFD",
+            "measure 001E CEFF",
+            "measure FFFF -",
+            "record",
+            "poke 0001 02",
+            "poke id -",
+            "poke password 31",
+            "poke mode 7",
+            "write 256 00 31",
+            "write 256 00 - 1:0001:- 255:FFFF:00FF",
+            "read 00 31 FDFD",
+            "list -",
+        ] {
+            assert_eq!(parse(line).unwrap().to_string(), line);
+        }
+    }
+
+    #[test]
+    fn other_lines_have_no_form() {
+        // The hand-made list has the full range of them.
+        for line in [
+            "",
+            "record\r",
+            "tick 5",
+            "setup 00 31 1 2",
+            "setup 00 31 99999999999999999999999",
+            "packet 256 FD FD",
+            "write 256 00 31 1:0001:-  1:0001:-",
+            "poke mode 1 1",
+        ] {
+            assert_eq!(parse(line), None, "{line}");
+        }
+    }
+}

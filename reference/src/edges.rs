@@ -1,0 +1,181 @@
+//! The fixed hand-made list: the examples and the edge cases of each rule, with the answers of the papers.
+//! The answers are written out here and not computed; a test holds the implementation against them.
+
+mod blocks;
+mod commands;
+mod examples;
+mod framing;
+mod lines;
+mod records;
+mod rows;
+mod senders;
+mod tool;
+
+use crate::call::Call;
+use crate::hex;
+use crate::packet;
+
+/// The controller ID of the guide's program.
+pub const ID: [u8; 16] = *b"002D6E1B34565815";
+pub const ZERO_ID: [u8; 16] = [0; 16];
+/// The guide's default password.
+pub const PASSWORD: &[u8] = b"1111";
+
+/// The rows of a start record, without 007C.
+const START: &str = "0001=00 0002=01 0003=03 0006=00 0007=00 0008=00 0009=00 000A=00 000B=000000 \
+    000D=00 0014=00 0015=00 0018=0F 001D=00 001E=0000 001F=0000 0020=0000 0021=0000 0022=0000 \
+    0032=00 0033=00 0036=00 0037=64 003A=00 003B=00 003C=00 003D=00 003E=00 003F=00 0040=00 \
+    0041=00 0042=00 0043=00 0045=00 0046=00 0047=00 0060=00 0063=0000 0064=00000000 0066=00 \
+    0067=00 0068=00 006A=0000 006F=000000 0070=01010100 0072=00 0073=00 0074=00 007C=ID \
+    0086=000000000000 0088=00 0093=00 0094=01 0095=41 0096=3030303030303030 0099=30 009A=01 \
+    009B=00 009C=00000000 009D=00000000 009E=00000000 009F=00000000 00A1=00 00A3=00000000 00B6=00 \
+    00B9=0200 00F0=00 0111=0000 0112=000000000000 0400=00 0401=00 0402=00";
+
+/// A line of the list and the answer it must get; a comment has none.
+pub struct Entry {
+    pub line: String,
+    pub answer: Option<String>,
+}
+
+/// The list in the making, and the identity of its board.
+pub struct Edges {
+    entries: Vec<Entry>,
+    id: Vec<u8>,
+    password: Vec<u8>,
+}
+
+/// The whole list.
+pub fn list() -> Vec<Entry> {
+    let mut edges = Edges {
+        entries: Vec::new(),
+        id: ZERO_ID.to_vec(),
+        password: Vec::new(),
+    };
+    examples::add(&mut edges);
+    framing::add(&mut edges);
+    senders::add(&mut edges);
+    blocks::add(&mut edges);
+    commands::add(&mut edges);
+    rows::add(&mut edges);
+    records::add(&mut edges);
+    tool::add(&mut edges);
+    lines::add(&mut edges);
+    edges.entries
+}
+
+/// Bytes of hex digits that may have spaces between them.
+pub fn bytes(digits: &str) -> Vec<u8> {
+    let digits = digits.replace(' ', "");
+    if digits.is_empty() {
+        return Vec::new();
+    }
+    hex::parse_field(&digits).expect("hex digits of the hand-made list")
+}
+
+/// The entries of a hand-written table, which are separated by bars.
+pub fn entries(table: &str) -> impl Iterator<Item = &str> {
+    table.split('|').map(str::trim)
+}
+
+/// A packet as a field of a call.
+pub fn framed(id: &[u8], password: &[u8], function: u8, data: &str) -> String {
+    hex::field(&packet::write(id, password, function, &bytes(data)))
+}
+
+/// What `record` writes for a start record with some rows changed.
+pub fn record(id: &[u8], password: &[u8], mode: u8, changes: &[(&str, &str)]) -> String {
+    let (id, password) = (hex::field(id), hex::field(password));
+    let mut text = format!("record id={id} password={password} mode={mode}");
+    for row in START.split_whitespace() {
+        let (number, start) = row.split_once('=').expect("a row of the start record");
+        let changed = changes.iter().find(|change| change.0 == number);
+        let value = match changed {
+            Some((_, value)) => value,
+            None if number == "007C" => id.as_str(),
+            None => start,
+        };
+        text += &format!(" {number}={value}");
+    }
+    text
+}
+
+impl Edges {
+    /// A comment that says which rule the next calls try.
+    fn rule(&mut self, text: &str) {
+        self.passed_over(&format!("# {text}"));
+    }
+
+    /// A line without an answer.
+    fn passed_over(&mut self, line: &str) {
+        self.entries.push(Entry {
+            line: line.to_string(),
+            answer: None,
+        });
+    }
+
+    /// Any line with its answer.
+    fn line(&mut self, line: impl Into<String>, answer: impl Into<String>) {
+        self.entries.push(Entry {
+            line: line.into(),
+            answer: Some(answer.into()),
+        });
+    }
+
+    /// An accepted set-up; later packets are for this board.
+    fn set_up(&mut self, id: &[u8], password: &[u8], mode: u8) {
+        (self.id, self.password) = (id.to_vec(), password.to_vec());
+        let call = Call::Setup {
+            id: id.to_vec(),
+            password: password.to_vec(),
+            mode,
+        };
+        self.line(call.to_string(), "accepted");
+    }
+
+    /// A packet of any bytes.
+    fn packet(&mut self, packet: &[u8], answer: &str) {
+        self.line(format!("packet 256 {}", hex::field(packet)), answer);
+    }
+
+    /// A rightful request.
+    fn ask(&mut self, function: u8, data: &str, answer: &str) {
+        let request = framed(&self.id, &self.password, function, data);
+        self.line(format!("packet 256 {request}"), answer);
+    }
+
+    /// A rightful request that gets a response with this data block.
+    fn expect(&mut self, function: u8, data: &str, reports: &str) {
+        let response = framed(&self.id, &self.password, packet::RESPONSE, reports);
+        self.ask(function, data, &format!("response {response}"));
+    }
+
+    /// The board's record, as set up but for some rows.
+    fn record(&mut self, mode: u8, changes: &[(&str, &str)]) {
+        let answer = record(&self.id, &self.password, mode, changes);
+        self.line("record", answer);
+    }
+}
+
+#[cfg(test)]
+mod tests {
+    use super::*;
+    use crate::replay::Session;
+
+    #[test]
+    fn every_edge_gets_its_answer() {
+        let mut session = Session::new();
+        let mut rule = String::new();
+        for Entry { line, answer } in list() {
+            assert_eq!(session.line(line.as_bytes()), answer, "{rule}\n{line}");
+            if answer.is_none() {
+                rule = line;
+            }
+        }
+    }
+
+    #[test]
+    fn no_line_is_longer_than_a_replay_must_hold() {
+        assert!(list().iter().all(|entry| entry.line.len() <= 8_192));
+        assert!(list().iter().any(|entry| entry.line.len() == 8_192));
+    }
+}

@@ -1,0 +1,158 @@
+//! Call lists from a seed. The calls are made here too, so that later calls can build on their answers.
+
+mod blocks;
+mod board_calls;
+mod identities;
+mod lines;
+mod packets;
+mod poke_calls;
+mod tool_calls;
+mod values;
+
+use crate::call::Call;
+use crate::random::Random;
+use crate::replay::Session;
+
+/// A list in the making.
+struct Generator {
+    random: Random,
+    session: Session,
+    lines: Vec<String>,
+    calls: usize,
+    limit: usize,
+}
+
+/// One or a few calls that belong together.
+type Scenario = fn(&mut Generator);
+
+/// How often each scenario comes, in parts of their sum.
+const SCENARIOS: [(usize, Scenario); 20] = [
+    (4, Generator::set_up),
+    (24, Generator::rightful_traffic),
+    (8, Generator::one_row),
+    (8, Generator::search),
+    (5, Generator::stranger),
+    (4, Generator::malformed_block),
+    (7, Generator::faulty_packet),
+    (9, Generator::changed_packet),
+    (5, Generator::packet_of_any_length),
+    (6, Generator::full_response),
+    (5, Generator::full_search_response),
+    (6, Generator::measurement),
+    (4, Generator::poke_row),
+    (2, Generator::poke_identity),
+    (7, Generator::tool_to_board),
+    (4, Generator::faulty_write),
+    (2, Generator::full_write),
+    (7, Generator::handmade_response),
+    (3, Generator::bad_line),
+    (3, Generator::show_record),
+];
+
+/// A list of `count` calls; lines that are passed over come on top of them.
+pub fn list(seed: u64, count: usize) -> Vec<String> {
+    let mut generator = Generator {
+        random: Random::new(seed),
+        session: Session::new(),
+        lines: Vec::new(),
+        calls: 0,
+        limit: count,
+    };
+    while generator.calls < count {
+        generator.scenario();
+    }
+    generator.lines
+}
+
+impl Generator {
+    fn scenario(&mut self) {
+        if self.session.record.check().is_err() && self.random.chance(50) {
+            self.set_up();
+        }
+        if self.random.chance(1) {
+            self.passed_over_line();
+        }
+        if self.calls.is_multiple_of(500) && self.random.chance(50) {
+            self.long_line();
+        }
+        let sum: usize = SCENARIOS.iter().map(|(weight, _)| weight).sum();
+        let mut ticket = self.random.between(0, sum - 1);
+        for (weight, scenario) in SCENARIOS {
+            if ticket < weight {
+                return scenario(self);
+            }
+            ticket -= weight;
+        }
+    }
+
+    /// Adds a call and makes it; past the limit it does neither.
+    fn call(&mut self, call: Call) -> String {
+        self.line(call.to_string())
+    }
+
+    /// Adds any line and gives its answer.
+    fn line(&mut self, line: String) -> String {
+        if self.calls >= self.limit {
+            return String::new();
+        }
+        let answer = self.session.line(line.as_bytes());
+        self.lines.push(line);
+        self.calls += usize::from(answer.is_some());
+        answer.unwrap_or_default()
+    }
+
+    fn show_record(&mut self) {
+        self.call(Call::Record);
+    }
+
+    /// Now and then the whole state is compared.
+    fn show_record_sometimes(&mut self, percent: usize) {
+        if self.random.chance(percent) {
+            self.show_record();
+        }
+    }
+
+    fn id(&self) -> Vec<u8> {
+        self.session.record.id.to_vec()
+    }
+
+    fn password(&self) -> Vec<u8> {
+        self.session.record.password.clone()
+    }
+
+    /// Mostly the usual buffer, else one at an edge or of any length.
+    fn buffer_length(&mut self) -> usize {
+        if self.random.chance(85) {
+            return 256;
+        }
+        let any = self.random.between(0, 1024);
+        self.random
+            .pick(&[0, 1, 24, 128, 254, 255, 257, 300, 512, 1023, 1024, any])
+    }
+}
+
+#[cfg(test)]
+mod tests {
+    use super::*;
+
+    #[test]
+    fn a_seed_gives_one_list_of_the_asked_length() {
+        let first = list(5, 700);
+        assert_eq!(first, list(5, 700));
+        assert_ne!(first, list(6, 700));
+        let mut session = Session::new();
+        let answers = first
+            .iter()
+            .filter_map(|line| session.line(line.as_bytes()))
+            .count();
+        assert_eq!(answers, 700);
+        assert!(list(5, 0).is_empty());
+    }
+
+    #[test]
+    fn no_line_is_longer_than_a_replay_must_hold() {
+        let lines = list(9, 5_000);
+        assert!(lines.iter().all(|line| line.len() <= 8_192));
+        assert!(lines.iter().any(|line| line.len() == 8_192));
+    }
+}

@@ -1,0 +1,248 @@
+//! Replay: makes the calls of a list in order on one board and writes one line for each.
+
+use std::io::{self, BufRead, Write};
+
+use crate::block::{Command, Report};
+use crate::board;
+use crate::call::{self, Call};
+use crate::hex;
+use crate::listing;
+use crate::record::{self, Record};
+use crate::refusal::Refusal;
+use crate::tool;
+
+pub const BAD_LINE: &str = "bad line";
+
+/// What each byte of a buffer is before the call.
+const FILLER: u8 = 0xA5;
+
+/// The board of a call list.
+#[derive(Clone)]
+pub struct Session {
+    pub record: Record,
+}
+
+impl Default for Session {
+    fn default() -> Session {
+        Session::new()
+    }
+}
+
+impl Session {
+    /// Before the first set-up the board is that of a refused one.
+    pub fn new() -> Session {
+        Session {
+            record: Record::refused(),
+        }
+    }
+
+    /// The answer to one line, its line end taken off; none for a line that is passed over.
+    pub fn line(&mut self, line: &[u8]) -> Option<String> {
+        if line.is_empty() || line[0] == b'#' {
+            return None;
+        }
+        let call = std::str::from_utf8(line).ok().and_then(call::parse);
+        Some(match call {
+            Some(call) => self.answer(&call),
+            None => BAD_LINE.to_string(),
+        })
+    }
+
+    /// Makes one call.
+    pub fn answer(&mut self, call: &Call) -> String {
+        match call {
+            Call::Setup { id, password, mode } => self.setup(id, password, *mode),
+            Call::Packet { length, packet } => self.packet(*length, packet),
+            Call::Measure { number, value } => {
+                accepted(board::measure(&mut self.record, *number, value))
+            }
+            Call::Record => show(&self.record),
+            Call::Write {
+                length,
+                id,
+                password,
+                commands,
+            } => write(*length, id, password, commands),
+            Call::Read {
+                id,
+                password,
+                packet,
+            } => read(id, password, packet),
+            Call::List { packet } => listing::lines(packet).join("|"),
+            poke => self.poke(poke),
+        }
+    }
+
+    fn setup(&mut self, id: &[u8], password: &[u8], mode: u8) -> String {
+        let (record, answer) = record::setup(id, password, mode);
+        self.record = record;
+        accepted(answer)
+    }
+
+    fn packet(&mut self, length: usize, packet: &[u8]) -> String {
+        let mut buffer = vec![FILLER; length];
+        let answer = board::packet(&mut self.record, packet, &mut buffer);
+        let text = match answer {
+            Ok(0) => "silence".to_string(),
+            Ok(length) => format!("response {}", hex::digits(&buffer[..length])),
+            Err(refusal) => refused(refusal),
+        };
+        text + dirty(&buffer, answer)
+    }
+
+    fn poke(&mut self, call: &Call) -> String {
+        match call {
+            Call::PokeRow { number, value } => self.record.poke_row(*number, value),
+            Call::PokeId(id) => self.record.poke_id(id),
+            Call::PokePassword(password) => self.record.poke_password(password),
+            Call::PokeMode(mode) => self.record.mode = *mode,
+            _ => unreachable!("only pokes come here"),
+        }
+        "poked".to_string()
+    }
+}
+
+fn refused(refusal: Refusal) -> String {
+    format!("refused {}", refusal.number())
+}
+
+fn accepted(answer: Result<(), Refusal>) -> String {
+    match answer {
+        Ok(()) => "accepted".to_string(),
+        Err(refusal) => refused(refusal),
+    }
+}
+
+/// Marks a buffer that was changed outside the returned length.
+fn dirty(buffer: &[u8], answer: Result<usize, Refusal>) -> &'static str {
+    let rest = &buffer[answer.unwrap_or(0)..];
+    if rest.iter().all(|byte| *byte == FILLER) {
+        ""
+    } else {
+        " dirty"
+    }
+}
+
+fn write(length: usize, id: &[u8], password: &[u8], commands: &[Command]) -> String {
+    let mut buffer = vec![FILLER; length];
+    let answer = tool::write(&mut buffer, id, password, commands);
+    let text = match answer {
+        Ok(length) => format!("packet {}", hex::digits(&buffer[..length])),
+        Err(refusal) => refused(refusal),
+    };
+    text + dirty(&buffer, answer)
+}
+
+fn read(id: &[u8], password: &[u8], packet: &[u8]) -> String {
+    match tool::read(id, password, packet) {
+        Ok(reports) => reports.iter().fold("reports".to_string(), |text, report| {
+            text + &match report {
+                Report::Value { number, value } => format!(" {number:04X}={}", hex::field(value)),
+                Report::Unknown { number } => format!(" {number:04X}=unknown"),
+            }
+        }),
+        Err(refusal) => refused(refusal),
+    }
+}
+
+/// The whole record, legal or not.
+fn show(record: &Record) -> String {
+    let identity = format!(
+        "record id={} password={} mode={}",
+        hex::field(&record.id),
+        hex::field(&record.password),
+        record.mode
+    );
+    record
+        .values
+        .iter()
+        .fold(identity, |text, (number, value)| {
+            text + &format!(" {number:04X}={}", hex::field(value))
+        })
+}
+
+/// Replays a whole list, line by line.
+pub fn replay(mut input: impl BufRead, mut output: impl Write) -> io::Result<()> {
+    let mut session = Session::new();
+    let mut line = Vec::new();
+    while input.read_until(b'\n', &mut line)? > 0 {
+        if line.last() == Some(&b'\n') {
+            line.pop();
+        }
+        if let Some(answer) = session.line(&line) {
+            writeln!(output, "{answer}")?;
+        }
+        line.clear();
+    }
+    output.flush()
+}
+
+#[cfg(test)]
+mod tests {
+    use super::*;
+
+    fn run(list: &str) -> String {
+        let mut output = Vec::new();
+        replay(list.as_bytes(), &mut output).unwrap();
+        String::from_utf8(output).unwrap()
+    }
+
+    #[test]
+    fn comments_and_empty_lines_are_passed_over() {
+        assert_eq!(run(""), "");
+        assert_eq!(run("\n# text\n#\n\nlist -\n"), "refused,2\n");
+        assert_eq!(run("list -"), "refused,2\n");
+        assert_eq!(
+            run(" # text\n\r\nlist -\r\n"),
+            "bad line\nbad line\nbad line\n"
+        );
+    }
+
+    #[test]
+    fn bytes_that_are_no_text_are_a_bad_line() {
+        let mut output = Vec::new();
+        replay(&b"\xFF\xFE\n# \xFF\nlist \xC3\xA9\n"[..], &mut output).unwrap();
+        assert_eq!(output, b"bad line\nbad line\n");
+    }
+
+    #[test]
+    fn before_the_first_setup_the_board_is_a_refused_one() {
+        let first = run("record\n");
+        assert!(first.starts_with(
+            "record id=00000000000000000000000000000000 password=- mode=1 0001=00 0002=01 0003=03 "
+        ));
+        assert!(
+            first.ends_with(
+                " 00B9=0200 00F0=00 0111=0000 0112=000000000000 0400=00 0401=00 0402=00\n"
+            )
+        );
+        let refused = run("setup 00 - 1\nrecord\n");
+        assert_eq!(refused, format!("refused 20\n{first}"));
+    }
+
+    #[test]
+    fn bad_lines_change_nothing() {
+        let lines = run("record\nsetup 00 - 256\nsetup 00 -  1\nrecord\n");
+        let lines: Vec<&str> = lines.lines().collect();
+        assert_eq!(lines[0], lines[3]);
+        assert_eq!(lines[1..3], ["bad line", "bad line"]);
+    }
+
+    #[test]
+    fn pokes_show_in_the_record_also_where_70_refuses_it() {
+        let lines = run(
+            "poke 0095 -\npoke mode 7\npoke password 2A\npoke 0063 FF\nrecord\npacket 0 -\nmeasure FFFF -\n",
+        );
+        let lines: Vec<&str> = lines.lines().collect();
+        assert_eq!(lines[..4], ["poked"; 4]);
+        assert!(lines[4].contains(" password=2A mode=7 "));
+        assert!(lines[4].contains(" 0095=- ") && lines[4].contains(" 0063=FF00 "));
+        assert_eq!(lines[5..], ["refused 70", "refused 70"]);
+    }
+
+    #[test]
+    fn a_line_of_any_length_is_read() {
+        let long = format!("packet 1024 {}\n", "FD".repeat(100_000));
+        assert_eq!(run(&long), "refused 2\n");
+    }
+}

@@ -1,0 +1,137 @@
+//! How often each answer came, call by call, and which ones never did.
+
+use std::collections::BTreeMap;
+
+use crate::packet::LONGEST;
+use crate::replay::BAD_LINE;
+
+/// What a comparison has to meet: each call with its refusals and its other answers.
+const EXPECTED: [(&str, &[u8], &[&str]); 9] = [
+    ("setup", &[20, 21, 22], &["accepted"]),
+    (
+        "packet",
+        &[70, 1, 2, 3, 4, 5, 6, 7, 8, 9, 10, 11, 12],
+        &["silence", "response", "response of 256 bytes"],
+    ),
+    ("measure", &[70, 30, 31], &["accepted"]),
+    ("record", &[], &["shown"]),
+    ("poke", &[], &["poked"]),
+    (
+        "write",
+        &[1, 40, 21, 42, 43],
+        &["packet", "packet of 256 bytes"],
+    ),
+    ("read", &[40, 21, 2, 3, 4, 5, 6, 7, 8, 9, 10], &["reports"]),
+    ("list", &[2, 3, 4, 5, 6, 9, 10], &["listed"]),
+    ("line", &[], &["bad"]),
+];
+
+/// The counts, by call and answer.
+#[derive(Default)]
+pub struct Tally {
+    counts: BTreeMap<String, usize>,
+}
+
+impl Tally {
+    pub fn add(&mut self, line: &str, answer: &str) {
+        let name = name(line, answer);
+        let full_length = |word: &str| word.len() == 2 * LONGEST;
+        if answer.split(' ').nth(1).is_some_and(full_length) && !name.starts_with("read") {
+            let full = format!("{name} of {LONGEST} bytes");
+            *self.counts.entry(full).or_default() += 1;
+        }
+        *self.counts.entry(name).or_default() += 1;
+    }
+
+    /// One line for each expected answer, with its count.
+    pub fn lines(&self) -> Vec<String> {
+        expected()
+            .map(|name| format!("{:>9}  {name}", self.count(&name)))
+            .collect()
+    }
+
+    /// The expected answers that never came.
+    pub fn missing(&self) -> Vec<String> {
+        expected().filter(|name| self.count(name) == 0).collect()
+    }
+
+    fn count(&self, name: &str) -> usize {
+        self.counts.get(name).copied().unwrap_or(0)
+    }
+}
+
+fn expected() -> impl Iterator<Item = String> {
+    EXPECTED.iter().flat_map(|(call, refusals, answers)| {
+        let answers = answers.iter().map(move |answer| format!("{call} {answer}"));
+        let refusals = refusals
+            .iter()
+            .map(move |number| format!("{call} refused {number}"));
+        answers.chain(refusals)
+    })
+}
+
+/// Call and answer in words.
+fn name(line: &str, answer: &str) -> String {
+    let call = line.split(' ').next().unwrap_or_default();
+    let first_word = answer.split(' ').next().unwrap_or_default();
+    match first_word {
+        _ if answer == BAD_LINE => "line bad".to_string(),
+        "refused" => format!("{call} {answer}"),
+        "record" => "record shown".to_string(),
+        _ if call == "list" => match answer.strip_prefix("refused,") {
+            Some(number) => format!("list refused {number}"),
+            None => "list listed".to_string(),
+        },
+        word => format!("{call} {word}"),
+    }
+}
+
+#[cfg(test)]
+mod tests {
+    use super::*;
+    use crate::generate;
+    use crate::replay::Session;
+
+    #[test]
+    fn answers_are_named() {
+        for (line, answer, expected) in [
+            ("setup - - 1", "refused 20", "setup refused 20"),
+            ("packet 256 -", "refused 2", "packet refused 2"),
+            ("packet 256 00", "silence", "packet silence"),
+            ("packet 256 00", "response FD", "packet response"),
+            ("record", "record id=", "record shown"),
+            ("list -", "refused,2", "list refused 2"),
+            ("list FD", "number,value|0x0001,00", "list listed"),
+            ("setup", "bad line", "line bad"),
+            ("write 256 00 -", "packet FD", "write packet"),
+            ("read 00 - FD", "reports 0001=00", "read reports"),
+        ] {
+            assert_eq!(name(line, answer), expected);
+        }
+    }
+
+    #[test]
+    fn full_lengths_are_counted_apart() {
+        let mut tally = Tally::default();
+        tally.add("packet 256 00", &format!("response {}", "00".repeat(256)));
+        tally.add("packet 256 00", &format!("response {}", "00".repeat(255)));
+        assert_eq!(tally.count("packet response"), 2);
+        assert_eq!(tally.count("packet response of 256 bytes"), 1);
+        assert!(tally.missing().contains(&"packet silence".to_string()));
+        assert!(!tally.missing().contains(&"packet response".to_string()));
+    }
+
+    #[test]
+    fn generated_lists_meet_every_answer_often() {
+        let mut tally = Tally::default();
+        let mut session = Session::new();
+        for line in generate::list(1, 20_000) {
+            if let Some(answer) = session.line(line.as_bytes()) {
+                tally.add(&line, &answer);
+            }
+        }
+        for name in expected() {
+            assert!(tally.count(&name) >= 20, "{name}: {}", tally.count(&name));
+        }
+    }
+}
