@@ -31,6 +31,9 @@ use Rattle.model.proofs.StepRefusals.{no-refusal, request-refusal-by, s
 abbrev pub withReply : Board → Reply → Outcome
 withReply board reply = outcomeOf board (reply .answer) (reply .buffer)
 
+no-and : {a : Bool} (b : Bool) → a ≡ true → (not a && b) ≡ false
+no-and b h = ap (λ (a : Bool). not a && b) h
+
 turned-down :
     (small known : Bool) (of-packet : Option ℕ)
     → cond small (some 1) (orElse of-packet (cond (not known) (some 7) (some 8))) ≡ some (cond small 1 (Option·getD of-packet (cond known 8 7)))
@@ -72,7 +75,7 @@ module _ (board : Board) (packet : List ℕ) where
         let default : same (frameOf packet .id) defaultId ≡ true = both-true (eqb (board .mode) client) _ is-discovery .1 in
         request-refusal-by asked
         (ap (λ (d : Bool). not (same (frameOf packet .id) (board .id) || d)) default ∙ ap not (or-true (same (frameOf packet .id) (board .id))))
-        (ap (λ (d : Bool). not d && not (same (frameOf packet .password) (passwordOf board))) is-discovery)
+        (no-and _ is-discovery)
         refl
         refl
         (ap (λ (d : Bool). d && not (onlyReads (frameOf packet .function) (frameOf packet .block))) is-discovery)
