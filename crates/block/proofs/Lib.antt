@@ -9,3 +9,4 @@ pub mod Encodings
 pub mod RoundTrips
 pub mod AllReads
 pub mod LowBytes
+pub mod Appending

@@ -3,7 +3,6 @@ use Prim.Native.Nat.{ℕ, _+_, _<_, _≤_}
 use native.Mathlib.Omega.{arith}
 use mathlib.Core.Bool.{Bool, true, false, cond, _&&_, and-true, and-false, and-assoc}
 use mathlib.Core.List.{List, [], _∷_, _++_, append-nil}
-use mathlib.Core.Logic.{_⊎_, ⊎-elim}
 use mathlib.Core.Path.{_≡_, refl, sym, ap, _∙_}
 use borrow.Author.Tests.{leb-true, le-leb, lt-leb, leb-false}
 use denote.Enum.Declared.{tagOf}
@@ -17,33 +16,13 @@ use Rattle.block.specs.Command.{Report, reportPage}
 use Rattle.block.specs.Encoding.{encodeReport, encodeReports, lastPage, encodableReport, every}
 use Rattle.block.specs.Writing.{Writes}
 use Rattle.block.specs.declared.writer.Written.{Written}
-use Rattle.block.specs.declared.writer.Written.the-variants.{Until, NoRoom, NoEncoding}
+use Rattle.block.specs.declared.writer.Written.the-variants.{Until}
 use Rattle.block.proofs.writer.Written as Written
+use Rattle.block.proofs.Appending.{until-told, refused-told}
 use Rattle.block.proofs.RoundTrips.{reports-join, last-page-join}
 use Rattle.board.specs.declared.draft.Draft.{Draft}
 use Rattle.board.specs.declared.draft.Room.the-variants.{Left, Over}
 use Rattle.board.specs.Draft.{draftOf, taken, extended, exceeded, drafted}
-
--- what an answer tells of whether a report has a form and room
-until-by :
-    (encodable room : Bool) {answer : Written} {place until : ℕ} → answer ≡ cond encodable (cond room (Until place) NoRoom) NoEncoding → answer ≡ Until until
-    → ((encodable && room) ≡ true) × (until ≡ place)
-until-by true true e h = (refl, cc)
-until-by true false e h = ((cc), (cc))
-until-by false room e h = ((cc), (cc))
-
-over-by :
-    (encodable room : Bool) (place : ℕ) {answer : Written} → answer ≡ cond encodable (cond room (Until place) NoRoom) NoEncoding
-    → ((until : ℕ) → answer ≡ Until until → ⊥) → (encodable && room) ≡ false
-over-by true true place e h = absurd (h place e)
-over-by true false place e h = refl
-over-by false room place e h = refl
-
--- an answer of the two other variants is no `Until`
-pub not-until : {answer : Written} {until : ℕ} → answer ≡ Until until → OneOf (1 ∷ 2 ∷ []) (tagOf Written.the-type answer) → ⊥
-not-until {answer} e h =
-    let tag : tagOf Written.the-type answer ≡ 0 = ap (tagOf Written.the-type) e in
-    ⊎-elim (λ (other : tagOf Written.the-type answer ≡ 1). omega arith) (λ (other : tagOf Written.the-type answer ≡ 2). omega arith) h
 
 -- one report
 module _ (draft : Draft) (r : Report) where
@@ -62,17 +41,17 @@ module _ (draft : Draft) (r : Report) where
       → draftOf after until (reportPage r) Left ≡ drafted draft (r ∷ [])
   unfolding lastPage
   one-written {after} {until} done e =
-      let known = until-by (encodableReport r) (fits (draft .bytes) (draft .length) (encodeReport (draft .page) r)) (done .answered) e in
-      let laid : after ≡ overwrite (draft .bytes) (draft .length) (encodeReport (draft .page) r) = done .stored ∙ rw (known .0) in
-      (λ i. draftOf (laid i) (known .1 i) (reportPage r) Left)
-      ∙ rw (taken-one ∙ known .0, encoded-one)
+      let known = until-told (encodableReport r) (fits (draft .bytes) (draft .length) (encodeReport (draft .page) r)) (done .answered) e in
+      let laid : after ≡ overwrite (draft .bytes) (draft .length) (encodeReport (draft .page) r) = done .stored ∙ rw (known .0, known .1) in
+      (λ i. draftOf (laid i) (known .2 i) (reportPage r) Left)
+      ∙ rw (taken-one, known .0, known .1, encoded-one)
 
   pub one-over :
       {answer : Written} {after : List ℕ}
-      → Writes (draft .bytes) (draft .length) (encodableReport r) (encodeReport (draft .page) r) answer after → ((until : ℕ) → answer ≡ Until until → ⊥)
+      → Writes (draft .bytes) (draft .length) (encodableReport r) (encodeReport (draft .page) r) answer after → OneOf (1 ∷ 2 ∷ []) (tagOf Written.the-type answer)
       → exceeded draft ≡ drafted draft (r ∷ [])
   one-over done h =
-      rw (taken-one ∙ over-by (encodableReport r) (fits (draft .bytes) (draft .length) (encodeReport (draft .page) r)) _ (done .answered) h)
+      rw (taken-one ∙ refused-told (encodableReport r) (fits (draft .bytes) (draft .length) (encodeReport (draft .page) r)) _ (done .answered) h)
 
 -- reports behind reports
 every-join : (rs qs : List Report) → every encodableReport (rs ++ qs) ≡ (every encodableReport rs && every encodableReport qs)

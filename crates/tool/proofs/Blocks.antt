@@ -20,7 +20,7 @@ use Rattle.tool.specs.CommandList.{commandTo, commandList, SideBySide}
 use Rattle.tool.specs.Request.{hasBlock, Encodes}
 use Rattle.tool.specs.declared.request.Encoded.the-variants.{Size, NoBlock}
 use Rattle.tool.proofs.CommandLists.{list-step}
-use Rattle.tool.proofs.Appending.{appended, refused-told}
+use Rattle.block.proofs.Appending.{appended, refused-told}
 
 -- of the commands' block the first `at` bytes stand in the buffer, and `rest` is still to be written, with this page and this function in force
 pub record Progress (commands rest : List Command) (room : ℕ) (buffer : List ℕ) (at page function : ℕ) : Type 0 where

@@ -20,7 +20,7 @@ use Rattle.block.specs.declared.writer.Written.the-variants.{Until, NoRoom}
 use Rattle.block.proofs.writer.Written as Written
 use Rattle.block.proofs.Buffers.{no-room, with-room}
 use Rattle.tool.specs.Listing.{hexBytes, lineStart, lineFeed, reportLine, reportLines, header, textFrom, Lines}
-use Rattle.tool.proofs.Appending.{appended, refused-told}
+use Rattle.block.proofs.Appending.{appended, refused-told}
 use Rattle.tool.proofs.Texts.{length-hex}
 
 module _ (page low : ℕ) (value : List ℕ) where

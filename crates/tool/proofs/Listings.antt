@@ -26,7 +26,7 @@ use Rattle.tool.specs.declared.response.Response.the-variants.{Accepted,
 use Rattle.tool.specs.Listing.{reportLines, header, refusedLine, listingAs, listing, textFrom, Lines}
 use Rattle.tool.proofs.Refusals.{any-by, response-by}
 use Rattle.tool.proofs.Frames.{ordered, block-found}
-use Rattle.tool.proofs.Appending.{refused-told}
+use Rattle.block.proofs.Appending.{refused-told}
 use Rattle.tool.proofs.Bounds.{passed-frame, listing-bounded}
 
 accepted-as :

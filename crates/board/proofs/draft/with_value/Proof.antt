@@ -4,7 +4,7 @@ use mathlib.Core.Path.{_≡_, _∙_}
 use denote.Ref.{now}
 use Rattle.block.specs.Command.{held, unknown}
 use Rattle.block.specs.declared.writer.Written.the-variants.{Until}
-use Rattle.board.proofs.Drafts.{not-until, one-written, one-over}
+use Rattle.board.proofs.Drafts.{one-written, one-over}
 use borrow.Author.Needs.{needs}
 use Rattle.board.proofs.draft.with_value.Statement.{statement}
 use Rattle.board.proofs.draft.with_value.Tie as tie
@@ -26,7 +26,7 @@ returns c =
     let args = c .before .before .before .before .before .before .before .args in
     c .over .ensures
     ∙ one-over (args .draft) (held (args .page) (args .low) (now (args .value))) (c .before .before .before .write-report .ensures)
-    (λ (until : ℕ). λ (e : c .before .before .before .write-report .result ≡ Until until). not-until e (c .before .match .keys2))
+    (c .before .match .keys2)
 
 returns-2 : tie.Need-returns-2
 returns-2 c =

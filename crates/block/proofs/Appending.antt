@@ -22,7 +22,7 @@ pub record Appended (buffer : List ℕ) (at : ℕ) (bytes : List ℕ) (place : �
   pub same-room : length after ≡ length buffer
   pub front : take place after ≡ take at buffer ++ bytes
 
-until-told :
+pub until-told :
     (encodable fit : Bool) {answer : Written} {end place : ℕ} → answer ≡ cond encodable (cond fit (Until end) NoRoom) NoEncoding → answer ≡ Until place
     → (encodable ≡ true) × (fit ≡ true) × (place ≡ end)
 until-told true true e h = (refl, refl, cc)
