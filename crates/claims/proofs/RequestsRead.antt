@@ -1,0 +1,119 @@
+-- The board reads what the tool writes.
+use Prim.Native.Nat.{ℕ, _+_, _≤_}
+use native.Mathlib.Omega.{arith}
+use mathlib.Core.Bool.{Bool, true, false, not, _&&_, _||_}
+use mathlib.Core.List.{List, [], _∷_}
+use mathlib.Core.Option.{Option, none, some}
+use mathlib.Core.Path.{_≡_, refl, sym, ap, _∙_}
+use borrow.Author.Tests.{ltb-false, le-leb, leb-true, not-false}
+use lib.Dec.{leb, eqb}
+use lib.ListN.{length, take, drop}
+use lib.Seq.{take-at}
+use Rattle.octets.specs.Octets.{same}
+use Rattle.octets.proofs.Booleans.{both-true}
+use Rattle.octets.proofs.Same.{same-self}
+use Rattle.framing.specs.Frame.{Frame, packetOf, packetLength, isFrame}
+use Rattle.framing.specs.Identity.{defaultId, isPassword, allAlphanumeric}
+use Rattle.framing.specs.Packet.{packetRefusal, frameOf}
+use Rattle.framing.specs.Statements.{ReadsBack}
+use Rattle.framing.proofs.ReadsWritten.{reads-written}
+use Rattle.framing.proofs.Refusals.{not-refused}
+use Rattle.block.specs.Command.{Command}
+use Rattle.block.specs.Encoding.{firstFunction, encodableCommand, every}
+use Rattle.block.specs.Reading.{isSome}
+use Rattle.block.specs.Request.{commands}
+use Rattle.block.proofs.RoundTrips.{commands-decode}
+use Rattle.board.specs.Record.{accessPoint}
+use Rattle.board.specs.Step.{Call, call, request, decoded}
+use Rattle.board.specs.declared.Board.{Board}
+use Rattle.board.proofs.Refused.{authorized-answered}
+use Rattle.tool.specs.Request.{WriteCall, commandsOf, requestOf, writeRefusals, writeRefusal, writtenAs, bufferAs, Writes}
+use Rattle.tool.specs.declared.request.Written.{Written}
+use Rattle.tool.specs.declared.request.Written.the-variants.{Length}
+use Rattle.claims.specs.Agreement.{RequestRead, RequestsAgree}
+
+-- what is known of a call that the writer does not refuse
+pub record WriterTakes (given : WriteCall) : Type 0 where
+  pub password : isPassword (given .password) ≡ true
+  pub encodable : every encodableCommand (commandsOf given) ≡ true
+  pub framed : isFrame (requestOf given) ≡ true
+
+writer-takes : (given : WriteCall) → writeRefusal given ≡ none → WriterTakes given
+unfolding writeRefusal writeRefusals
+writer-takes given h =
+    let one = not-refused _ _ given h in
+    let forty = not-refused _ _ given (one .1) in
+    let twenty-one = not-refused _ _ given (forty .1) in
+    let forty-one = not-refused _ _ given (twenty-one .1) in
+    let forty-two = not-refused _ _ given (forty-one .1) in
+    let forty-three = not-refused _ _ given (forty-two .1) in
+    let password : isPassword (given .password) ≡ true = not-false _ (twenty-one .0) in
+    let id-size : eqb (length (given .id)) 16 ≡ true = not-false _ (forty .0) in
+    let password-size : leb (length (given .password)) 8 ≡ true = both-true _ (allAlphanumeric (given .password)) password .0 in
+    let size : leb (packetLength (requestOf given)) 256 ≡ true = le-leb _ 256 (ltb-false 256 (packetLength (requestOf given)) (forty-three .0)) in
+    record { password = password; encodable = not-false _ (forty-two .0); framed = λ i. id-size i && password-size i && size i }
+
+-- an answered length is the packet's, which stands in the first bytes of the buffer
+pub record PacketSent (given : WriteCall) (packet : List ℕ) : Type 0 where
+  pub taken : WriterTakes given
+  pub packet-written : packet ≡ packetOf (requestOf given)
+
+pub packet-sent : (given : WriteCall) {answer : Written} {written : List ℕ} {size : ℕ} → Writes given answer written → answer ≡ Length size → PacketSent given (take size written)
+packet-sent given {answer} {written} {size} writes e = by-refusal (writeRefusal given) refl (writes .answered) (writes .held)
+  where
+    by-refusal : (o : Option ℕ) → writeRefusal given ≡ o → answer ≡ writtenAs o given → written ≡ bufferAs o given → PacketSent given (take size written)
+    by-refusal none none-refused told held =
+        let whole : size ≡ length (packetOf (requestOf given)) = cc in
+        record {
+          taken = writer-takes given none-refused;
+          packet-written = (λ i. take (whole i) (held i)) ∙ take-at (packetOf (requestOf given)) _ (length (packetOf (requestOf given))) refl;
+        }
+    by-refusal (some number) refused told held = let impossible : _≡_ {A = ℕ} 0 1 = cc in absurd (omega arith)
+
+-- and is read as the frame that was written
+pub frame-read : (given : WriteCall) {packet : List ℕ} → PacketSent given packet → (packetRefusal packet ≡ none) × (frameOf packet ≡ requestOf given)
+frame-read given s =
+    let back : ReadsBack (requestOf given) = reads-written (requestOf given) (s .taken .framed) in
+    (ap packetRefusal (s .packet-written) ∙ back .accepted, ap frameOf (s .packet-written) ∙ back .frame-back)
+
+-- FUNC is one of the five
+first-within : (cs : List Command) → every encodableCommand cs ≡ true → (1 ≤ firstFunction cs) × (firstFunction cs ≤ 5)
+unfolding every
+first-within [] h = (omega arith, omega arith)
+first-within (c ∷ cs) h =
+    let first = both-true (encodableCommand c) (every encodableCommand cs) h .0 in
+    let within = both-true (leb 1 (c .function)) (leb (c .function) 5) (both-true (leb 1 (c .function) && leb (c .function) 5) _ first .0) in
+    (leb-true 1 (c .function) (within .0), leb-true (c .function) 5 (within .1))
+
+-- equal bytes are the same
+same-as : {left right : List ℕ} → left ≡ right → same left right ≡ true
+same-as {left} {right} e = ap (λ (bytes : List ℕ). same bytes right) e ∙ same-self right
+
+pub requests-agree : RequestsAgree
+requests-agree given answer written size writes e board buffer =
+    let s : PacketSent given (take size written) = packet-sent given writes e in
+    let read = frame-read given s in
+    let c : Call = call board (take size written) buffer in
+    let id : request c .frame .id ≡ given .id = ap (λ (f : Frame). f .id) (read .1) in
+    let password : request c .frame .password ≡ given .password = ap (λ (f : Frame). f .password) (read .1) in
+    let function : request c .frame .function ≡ firstFunction (commandsOf given) = ap (λ (f : Frame). f .function) (read .1) in
+    let decoding : decoded (request c) ≡ some (commandsOf given) =
+    ap (λ (f : Frame). commands (f .function) (f .block)) (read .1) ∙ commands-decode (commandsOf given) (s .taken .encodable) in
+    record {
+      passes = read .0;
+      id = id;
+      password = password;
+      function = function;
+      commands = decoding;
+      answered = λ board-sound own-id own-password room short.
+          authorized-answered c
+          (record {
+            board = board-sound;
+            room = room;
+            id = ap (λ (own : Bool). own || eqb (board .mode) accessPoint && same (request c .frame .id) defaultId) (same-as (id ∙ own-id));
+            password = λ i. not (isSome (read .0 i)) && same-as (password ∙ own-password) i;
+            function = rw function (first-within (commandsOf given) (s .taken .encodable));
+            block = ap isSome decoding;
+            short = short;
+          });
+    }
