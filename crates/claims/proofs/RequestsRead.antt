@@ -86,7 +86,7 @@ first-within (c ∷ cs) h =
     (leb-true 1 (c .function) (within .0), leb-true (c .function) 5 (within .1))
 
 -- equal bytes are the same
-same-as : {left right : List ℕ} → left ≡ right → same left right ≡ true
+pub same-as : {left right : List ℕ} → left ≡ right → same left right ≡ true
 same-as {left} {right} e = ap (λ (bytes : List ℕ). same bytes right) e ∙ same-self right
 
 pub requests-agree : RequestsAgree
