@@ -6,7 +6,7 @@ use mathlib.Core.List.{List, [], _∷_, _++_}
 use mathlib.Core.Option.{Option, none, some, Option·getD}
 use mathlib.Core.Path.{_≡_, refl}
 use borrow.Author.Tests.{le-leb}
-use lib.Dec.{leb, eqb}
+use lib.Dec.{eqb}
 use lib.ListN.{length}
 use Rattle.octets.proofs.Booleans.{both-true}
 use Rattle.block.specs.Command.{Command, commandNumber, Report, held}

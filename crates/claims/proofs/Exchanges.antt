@@ -1,10 +1,6 @@
 -- The tool reads the reports that the board makes of the commands that the tool wrote.
-use Prim.Native.Nat.{ℕ}
-use mathlib.Core.Bool.{true}
-use mathlib.Core.List.{List}
-use mathlib.Core.Path.{_≡_, ap, subst, sym, _∙_}
+use mathlib.Core.Path.{_≡_, ap, subst, _∙_}
 use lib.ListN.{take}
-use Rattle.framing.specs.Frame.{Frame}
 use Rattle.framing.specs.Identity.{isPassword}
 use Rattle.board.specs.Step.{Request, call, request, requestOf}
 use Rattle.tool.specs.Request as tool

@@ -1,13 +1,14 @@
 -- The board reads what the tool writes.
-use Prim.Native.Nat.{ℕ, _+_, _≤_}
+use Prim.Native.Nat.{ℕ, _≤_}
 use native.Mathlib.Omega.{arith}
-use mathlib.Core.Bool.{Bool, true, false, not, _&&_, _||_}
+use mathlib.Core.Bool.{Bool, true, not, _&&_, _||_, or-true}
 use mathlib.Core.List.{List, [], _∷_}
+use mathlib.Core.Logic.{_⊎_, inl, inr}
 use mathlib.Core.Option.{Option, none, some}
-use mathlib.Core.Path.{_≡_, refl, sym, ap, _∙_}
-use borrow.Author.Tests.{ltb-false, le-leb, leb-true, not-false}
+use mathlib.Core.Path.{_≡_, refl, ap, _∙_}
+use borrow.Author.Tests.{eq-eqb, ltb-false, le-leb, leb-true, not-false}
 use lib.Dec.{leb, eqb}
-use lib.ListN.{length, take, drop}
+use lib.ListN.{length, take}
 use lib.Seq.{take-at}
 use Rattle.octets.specs.Octets.{same}
 use Rattle.octets.proofs.Booleans.{both-true}
@@ -25,12 +26,11 @@ use Rattle.block.specs.Request.{commands}
 use Rattle.block.proofs.RoundTrips.{commands-decode}
 use Rattle.board.specs.Record.{accessPoint}
 use Rattle.board.specs.Step.{Call, call, request, decoded}
-use Rattle.board.specs.declared.Board.{Board}
 use Rattle.board.proofs.Refused.{authorized-answered}
 use Rattle.tool.specs.Request.{WriteCall, commandsOf, requestOf, writeRefusals, writeRefusal, writtenAs, bufferAs, Writes}
 use Rattle.tool.specs.declared.request.Written.{Written}
 use Rattle.tool.specs.declared.request.Written.the-variants.{Length}
-use Rattle.claims.specs.Agreement.{RequestRead, RequestsAgree}
+use Rattle.claims.specs.Agreement.{RequestsAgree}
 
 -- what is known of a call that the writer does not refuse
 pub record WriterTakes (given : WriteCall) : Type 0 where
@@ -89,6 +89,14 @@ first-within (c ∷ cs) h =
 pub same-as : {left right : List ℕ} → left ≡ right → same left right ≡ true
 same-as {left} {right} e = ap (λ (bytes : List ℕ). same bytes right) e ∙ same-self right
 
+-- for the board's own ID, or at an access point for the default ID
+addressed :
+    {asked own : List ℕ} {mode : ℕ} {wanted : List ℕ} → asked ≡ wanted → (wanted ≡ own) ⊎ ((mode ≡ accessPoint) × (wanted ≡ defaultId))
+    → (same asked own || eqb mode accessPoint && same asked defaultId) ≡ true
+addressed {asked} {own} {mode} e (inl is-own) = ap (λ (t : Bool). t || eqb mode accessPoint && same asked defaultId) (same-as (e ∙ is-own))
+addressed {asked} {own} {mode} e (inr access) =
+    (λ i. same asked own || eq-eqb mode accessPoint (access .0) i && same-as (e ∙ access .1) i) ∙ or-true (same asked own)
+
 pub requests-agree : RequestsAgree
 requests-agree given answer written size writes e board buffer =
     let s : PacketSent given (take size written) = packet-sent given writes e in
@@ -105,12 +113,12 @@ requests-agree given answer written size writes e board buffer =
       password = password;
       function = function;
       commands = decoding;
-      answered = λ board-sound own-id own-password room short.
+      answered = λ board-sound own-password for-board room short.
           authorized-answered c
           (record {
             board = board-sound;
             room = room;
-            id = ap (λ (own : Bool). own || eqb (board .mode) accessPoint && same (request c .frame .id) defaultId) (same-as (id ∙ own-id));
+            id = addressed id for-board;
             password = λ i. not (isSome (read .0 i)) && same-as (password ∙ own-password) i;
             function = rw function (first-within (commandsOf given) (s .taken .encodable));
             block = ap isSome decoding;

@@ -1,12 +1,12 @@
 -- The tool reads what the board responds.
-use Prim.Native.Nat.{ℕ, _≤_}
+use Prim.Native.Nat.{ℕ}
 use native.Mathlib.Omega.{arith}
 use mathlib.Core.Bool.{Bool, true, false, not, _&&_, _||_}
-use mathlib.Core.List.{List, []}
+use mathlib.Core.List.{List}
 use mathlib.Core.Logic.{_⊎_, inl, inr}
 use mathlib.Core.Option.{Option, none, some}
-use mathlib.Core.Path.{_≡_, refl, sym, ap, subst, _∙_}
-use borrow.Author.Tests.{eq-eqb, ltb-false, le-leb, not-false, not-true}
+use mathlib.Core.Path.{_≡_, refl, sym, ap, _∙_}
+use borrow.Author.Tests.{eq-eqb, ltb-false, le-leb, not-false}
 use lib.Dec.{leb, eqb}
 use lib.ListN.{length, take}
 use Rattle.octets.specs.Octets.{same}
@@ -19,11 +19,9 @@ use Rattle.framing.specs.Statements.{ReadsBack}
 use Rattle.framing.proofs.ReadsWritten.{reads-written}
 use Rattle.framing.proofs.WritesRead.{writes-read}
 use Rattle.block.specs.Command.{Report}
-use Rattle.block.specs.Encoding.{encodableReport, every}
 use Rattle.block.specs.Reading.{isSome}
 use Rattle.block.specs.Response.{reports}
 use Rattle.block.proofs.RoundTrips.{reports-decode}
-use Rattle.store.specs.Laws.{Sized}
 use Rattle.board.specs.Record.{passwordOf, sound}
 use Rattle.board.specs.Refusals.{Silent, Responds}
 use Rattle.board.specs.Step.{Request, Call, request, isDiscovery, reportsOf, response, wrongPassword, stepRefusals, stepRefusal, Outcome, step, Steps}
@@ -32,10 +30,9 @@ use Rattle.board.specs.declared.Stepped.{Stepped}
 use Rattle.board.proofs.Refused.{first-none, packets-answered}
 use Rattle.board.proofs.Soundness.{sound-parts, id-length}
 use Rattle.board.proofs.StepRefusals.{step-refused, PassedRequest, passed-request, PassedStep, passed-step}
-use Rattle.tool.specs.Response.{readCall, readRefusal, responseOf, responseAs, otherId, otherPassword, noResponse, malformedBlock}
-use Rattle.tool.specs.Response as read
+use Rattle.tool.specs.Response.{readCall, readRefusal, responseAs, otherId, otherPassword, noResponse}
 use Rattle.tool.proofs.Refusals.{read-by, response-by}
-use Rattle.claims.specs.Agreement.{ResponseRead, ResponsesAgree}
+use Rattle.claims.specs.Agreement.{ResponsesAgree}
 use Rattle.claims.proofs.EncodableReports.{reports-encodable}
 use Rattle.claims.proofs.RequestsRead.{same-as}
 

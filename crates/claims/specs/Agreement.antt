@@ -8,11 +8,11 @@ use mathlib.Core.Option.{none, some}
 use mathlib.Core.Path.{_≡_}
 use lib.ListN.{length, take}
 use Rattle.framing.specs.Frame.{packetLength}
-use Rattle.framing.specs.Identity.{isPassword}
+use Rattle.framing.specs.Identity.{defaultId, isPassword}
 use Rattle.framing.specs.Packet.{packetRefusal, placesOf}
 use Rattle.block.specs.Encoding.{firstFunction}
 use Rattle.store.specs.Laws.{Sized}
-use Rattle.board.specs.Record.{passwordOf, sound}
+use Rattle.board.specs.Record.{accessPoint, passwordOf, sound}
 use Rattle.board.specs.Refusals.{Silent, Responds}
 use Rattle.board.specs.Step.{Request, Call, call, requestOf, request, isDiscovery, decoded, reportsOf, response, Steps}
 use Rattle.board.specs.declared.Answer.the-variants.{Response}
@@ -32,9 +32,10 @@ pub record RequestRead (given : WriteCall) (c : Call) : Type 0 where
   pub password : request c .frame .password ≡ given .password
   pub function : request c .frame .function ≡ firstFunction (commandsOf given)
   pub commands : decoded (request c) ≡ some (commandsOf given)
-  -- with the board's ID and password nothing but the length of the response can turn it down
+  -- with the board's password and its ID, or at an access point the default ID, nothing but the length of the response can turn it down
   pub answered :
-      sound (c .board) ≡ true → given .id ≡ c .board .id → given .password ≡ passwordOf (c .board) → 256 ≤ length (c .buffer)
+      sound (c .board) ≡ true → given .password ≡ passwordOf (c .board)
+      → (given .id ≡ c .board .id) ⊎ ((c .board .mode ≡ accessPoint) × (given .id ≡ defaultId)) → 256 ≤ length (c .buffer)
       → packetLength (response (request c)) ≤ 256 → Silent c ⊎ Responds c
 
 -- whatever the tool writes without a refusal, for any board

@@ -59,6 +59,10 @@ raise = packet (0x04 ∷ 0x63 ∷ 0x41 ∷ 0x01 ∷ [])
 abbrev pub seventy : List ℕ
 seventy = packet (0x02 ∷ 0xFE ∷ 0x02 ∷ 0x63 ∷ 0x46 ∷ 0x00 ∷ 0x85 ∷ 0x02 ∷ [])
 
+-- the response with 001E at CE FF
+abbrev pub temperature : List ℕ
+temperature = packet (0x06 ∷ 0xFE ∷ 0x02 ∷ 0x1E ∷ 0xCE ∷ 0xFF ∷ 0xCB ∷ 0x03 ∷ [])
+
 -- E12: an ID, the search and its response
 abbrev pub ownId : List ℕ
 ownId =
@@ -158,10 +162,14 @@ examples =
     ∷ holds 0x0001 (0x00 ∷ []) ∷ []) ∷
     -- E12: client mode, search, data 7C 01 B9; the search bears the password 2222 and gets it back
     runs (setUp ownId ones client) (sent discovery (Response 52) (filled found) ∷ []) ∷
-    -- A measurement, -5.0 degrees, that a packet then reads: without it a definition that drops its measurements would pass.
+    -- A measurement, -5.0 degrees, that a packet then reads: without it a definition that drops its measurements would pass. Its listing has letters among its digits.
     runs board
     (measured 0x001E (0xCE ∷ 0xFF ∷ []) Accepted
-    ∷ sent (packet (0x01 ∷ 0x1E ∷ 0xF9 ∷ 0x00 ∷ [])) (Response 33) (filled (packet (0x06 ∷ 0xFE ∷ 0x02 ∷ 0x1E ∷ 0xCE ∷ 0xFF ∷ 0xCB ∷ 0x03 ∷ []))) ∷ []) ∷
+    ∷ sent (packet (0x01 ∷ 0x1E ∷ 0xF9 ∷ 0x00 ∷ [])) (Response 33) (filled temperature) ∷ []) ∷
+    lists temperature
+    (0x6E ∷ 0x75 ∷ 0x6D ∷ 0x62 ∷ 0x65 ∷ 0x72 ∷ 0x2C ∷ 0x76 ∷ 0x61 ∷ 0x6C ∷ 0x75 ∷ 0x65 ∷ 0x0A  -- number,value
+    ∷ 0x30 ∷ 0x78 ∷ 0x30 ∷ 0x30 ∷ 0x31 ∷ 0x45 ∷ 0x2C ∷ 0x43 ∷ 0x45 ∷ 0x46 ∷ 0x46 ∷ 0x0A ∷ [])  -- 0x001E,CEFF
+    ∷
     -- What one packet stores the next one reads back: without it a definition that reports what is written and never stores it would pass.
     runs board
     (sent (packet (0x03 ∷ 0x02 ∷ 0x04 ∷ 0xE3 ∷ 0x00 ∷ [])) (Response 30) (filled (packet (0x06 ∷ 0x02 ∷ 0x04 ∷ 0xE6 ∷ 0x00 ∷ [])))
