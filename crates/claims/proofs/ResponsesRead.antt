@@ -2,9 +2,9 @@
 use Prim.Native.Nat.{ℕ}
 use native.Mathlib.Omega.{arith}
 use mathlib.Core.Bool.{Bool, true, false, not, _&&_, _||_}
-use mathlib.Core.List.{List}
+use mathlib.Core.List.{List, []}
 use mathlib.Core.Logic.{_⊎_, inl, inr}
-use mathlib.Core.Option.{Option, none, some}
+use mathlib.Core.Option.{Option, none, some, Option·getD}
 use mathlib.Core.Path.{_≡_, refl, sym, ap, _∙_}
 use borrow.Author.Tests.{eq-eqb, ltb-false, le-leb, not-false}
 use lib.Dec.{leb, eqb}
@@ -15,6 +15,7 @@ use Rattle.octets.proofs.Same.{same-self, same-equal}
 use Rattle.framing.specs.Frame.{Frame, packetOf, packetLength, isFrame}
 use Rattle.framing.specs.Identity.{defaultId, allAlphanumeric, isPassword}
 use Rattle.framing.specs.Packet.{packetRefusal, placesOf, frameOf}
+use Rattle.framing.specs.Refusal.{firstRefusal}
 use Rattle.framing.specs.Statements.{ReadsBack}
 use Rattle.framing.proofs.ReadsWritten.{reads-written}
 use Rattle.framing.proofs.WritesRead.{writes-read}
@@ -30,8 +31,9 @@ use Rattle.board.specs.declared.Stepped.{Stepped}
 use Rattle.board.proofs.Refused.{first-none, packets-answered}
 use Rattle.board.proofs.Soundness.{sound-parts, id-length}
 use Rattle.board.proofs.StepRefusals.{step-refused, PassedRequest, passed-request, PassedStep, passed-step}
-use Rattle.tool.specs.Response.{readCall, readRefusal, responseAs, otherId, otherPassword, noResponse}
-use Rattle.tool.proofs.Refusals.{read-by, response-by}
+use Rattle.tool.specs.Listing.{listingAs}
+use Rattle.tool.specs.Response.{readCall, readRefusal, responseAs, responseRefusals, otherId, otherPassword, noResponse}
+use Rattle.tool.proofs.Refusals.{read-by, any-by, response-by}
 use Rattle.claims.specs.Agreement.{ResponsesAgree}
 use Rattle.claims.proofs.EncodableReports.{reports-encodable}
 use Rattle.claims.proofs.RequestsRead.{same-as}
@@ -97,12 +99,19 @@ responses-agree c result after size sized steps e of-discovery =
     let found : frameOf packet ≡ response r = ap frameOf (back .packet-sent) ∙ reading .frame-back in
     let told : reports (frameOf packet .block) ≡ some (reportsOf r) =
     ap (λ (f : Frame). reports (f .block)) found ∙ reports-decode (reportsOf r) (reports-encodable r legal sized) in
+    let passes : packetRefusal packet ≡ none = ap packetRefusal (back .packet-sent) ∙ reading .accepted in
+    let formed : firstRefusal responseRefusals (frameOf packet) ≡ none =
+    response-by (frameOf packet) (ap (λ (f : Frame). noResponse (f .function)) found) (ap (λ (o : Option (List Report)). not (isSome o)) told) in
     let accepted : readRefusal (readCall packet (r .frame .id) (r .frame .password)) ≡ none =
     read-by (readCall packet (r .frame .id) (r .frame .password))
     (ap not (sizes .0))
     (ap not (sendable r legal (sizes .1) (passed .password) of-discovery))
-    (ap packetRefusal (back .packet-sent) ∙ reading .accepted)
+    passes
     (ap (λ (f : Frame). otherId (r .frame .id) (f .id)) found ∙ same-id (r .frame .id) (c .board .id) (passed .id))
     (ap (λ (f : Frame). otherPassword (r .frame .password) (f .password)) found ∙ ap not (same-self (r .frame .password)))
-    ∙ response-by (frameOf packet) (ap (λ (f : Frame). noResponse (f .function)) found) (ap (λ (o : Option (List Report)). not (isSome o)) told) in
-    record { accepted = ap (λ (o : Option ℕ). responseAs o (placesOf packet)) accepted; reports = told }
+    ∙ formed in
+    record {
+      accepted = ap (λ (o : Option ℕ). responseAs o (placesOf packet)) accepted;
+      reports = told;
+      listed = λ i. listingAs ((any-by packet passes ∙ formed) i) (Option·getD (told i) []);
+    }

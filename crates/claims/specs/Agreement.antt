@@ -2,7 +2,7 @@
 -- every report. All that is known of the tool's `write` and the board's `packet` are their contracts.
 use Prim.Native.Nat.{ℕ, _≤_}
 use mathlib.Core.Bool.{true}
-use mathlib.Core.List.{List}
+use mathlib.Core.List.{List, _++_}
 use mathlib.Core.Logic.{_⊎_}
 use mathlib.Core.Option.{none, some}
 use mathlib.Core.Path.{_≡_}
@@ -18,6 +18,7 @@ use Rattle.board.specs.Step.{Request, Call, call, requestOf, request, isDiscove
 use Rattle.board.specs.declared.Answer.the-variants.{Response}
 use Rattle.board.specs.declared.Board.{Board}
 use Rattle.board.specs.declared.Stepped.{Stepped}
+use Rattle.tool.specs.Listing.{reportLines, header, listing}
 use Rattle.tool.specs.Request.{WriteCall, commandsOf, Writes}
 use Rattle.tool.specs.Request as tool
 use Rattle.tool.specs.Response.{readCall, responseOf, acceptedAt}
@@ -48,6 +49,8 @@ RequestsAgree =
 pub record ResponseRead (r : Request) (packet : List ℕ) : Type 0 where
   pub accepted : responseOf (readCall packet (r .frame .id) (r .frame .password)) ≡ acceptedAt (placesOf packet)
   pub reports : read.reportsOf packet ≡ some (reportsOf r)
+  -- its listing has a line for each of them
+  pub listed : listing packet ≡ header ++ reportLines (reportsOf r)
 
 -- whatever the board responds; a discovery (search) alone may bear a password that the tool would not send
 abbrev pub ResponsesAgree : Type 0
