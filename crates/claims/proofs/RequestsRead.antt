@@ -4,9 +4,9 @@ use native.Mathlib.Omega.{arith}
 use mathlib.Core.Bool.{Bool, true, not, _&&_, _||_, or-true}
 use mathlib.Core.List.{List, [], _∷_}
 use mathlib.Core.Logic.{_⊎_, inl, inr}
-use mathlib.Core.Option.{Option, none, some}
+use mathlib.Core.Option.{Option, none, some, orElse}
 use mathlib.Core.Path.{_≡_, refl, ap, _∙_}
-use borrow.Author.Tests.{eq-eqb, ltb-false, le-leb, leb-true, not-false}
+use borrow.Author.Tests.{eq-eqb, eqb-true, ltb-false, le-ltb, le-leb, leb-true, not-false}
 use lib.Dec.{leb, eqb}
 use lib.ListN.{length, take}
 use lib.Seq.{take-at}
@@ -22,15 +22,18 @@ use Rattle.framing.proofs.Refusals.{not-refused}
 use Rattle.block.specs.Command.{Command}
 use Rattle.block.specs.Encoding.{firstFunction, encodableCommand, every}
 use Rattle.block.specs.Reading.{isSome}
-use Rattle.block.specs.Request.{commands}
+use Rattle.block.specs.Request.{commands, onlyReads}
 use Rattle.block.proofs.RoundTrips.{commands-decode}
-use Rattle.board.specs.Record.{accessPoint}
-use Rattle.board.specs.Step.{Call, call, request, decoded}
-use Rattle.board.proofs.Refused.{authorized-answered}
+use Rattle.board.specs.Record.{client, accessPoint, passwordOf, sound}
+use Rattle.board.specs.Refusals.{Silent, Responds}
+use Rattle.board.specs.Step.{Request, Call, call, request, isDiscovery, decoded, response, stepRefusals, stepRefusal}
+use Rattle.board.proofs.Refused.{first-none, packets-answered, authorized-answered}
+use Rattle.board.proofs.StepRefusals.{request-refusal-by, step-refusal-by}
 use Rattle.tool.specs.Request.{WriteCall, commandsOf, requestOf, writeRefusals, writeRefusal, writtenAs, bufferAs, Writes}
 use Rattle.tool.specs.declared.request.Written.{Written}
 use Rattle.tool.specs.declared.request.Written.the-variants.{Length}
 use Rattle.claims.specs.Agreement.{RequestsAgree}
+use Rattle.claims.proofs.ReadsOnly.{reads-only}
 
 -- what is known of a call that the writer does not refuse
 pub record WriterTakes (given : WriteCall) : Type 0 where
@@ -97,6 +100,28 @@ addressed {asked} {own} {mode} e (inl is-own) = ap (λ (t : Bool). t || eqb mode
 addressed {asked} {own} {mode} e (inr access) =
     (λ i. same asked own || eq-eqb mode accessPoint (access .0) i && same-as (e ∙ access .1) i) ∙ or-true (same asked own)
 
+-- a well-formed discovery that only reads is answered, where its response is not too long
+discovery-answered :
+    (c : Call) → packetRefusal (c .packet) ≡ none → sound (c .board) ≡ true → c .board .mode ≡ client → request c .frame .id ≡ defaultId
+    → isSome (decoded (request c)) ≡ true → onlyReads (request c .frame .function) (request c .frame .block) ≡ true → 256 ≤ length (c .buffer)
+    → packetLength (response (request c)) ≤ 256 → Silent c ⊎ Responds c
+unfolding stepRefusal orElse
+discovery-answered c passes board-sound mode asked formed reads room short =
+    let r : Request = request c in
+    let default : same (r .frame .id) defaultId ≡ true = same-as asked in
+    let discovery : isDiscovery r ≡ true = λ i. eq-eqb (c .board .mode) client mode i && default i in
+    let one : r .frame .function ≡ 1 = eqb-true _ 1 (both-true (eqb (r .frame .function) 1) _ reads .0) in
+    packets-answered c .accepted .1
+    (first-none stepRefusals c
+    (step-refusal-by c (ap not board-sound) (le-ltb _ 256 room) passes
+    (request-refusal-by r
+    (ap (λ (t : Bool). not (same (r .frame .id) (c .board .id) || t)) default ∙ ap not (or-true (same (r .frame .id) (c .board .id))))
+    (ap (λ (t : Bool). not t && not (same (r .frame .password) (passwordOf (c .board)))) discovery)
+    (ap (λ (f : ℕ). not (leb 1 f && leb f 5)) one)
+    (ap not formed)
+    (λ i. discovery i && not (reads i))
+    (le-ltb 256 _ short))))
+
 pub requests-agree : RequestsAgree
 requests-agree given answer written size writes e board buffer =
     let s : PacketSent given (take size written) = packet-sent given writes e in
@@ -124,4 +149,8 @@ requests-agree given answer written size writes e board buffer =
             block = ap isSome decoding;
             short = short;
           });
+      found = λ board-sound mode by-default reads room short.
+          discovery-answered c (read .0) board-sound mode (id ∙ by-default) (ap isSome decoding)
+          (ap (λ (f : Frame). onlyReads (f .function) (f .block)) (read .1) ∙ reads-only (commandsOf given) (s .taken .encodable) reads)
+          room short;
     }

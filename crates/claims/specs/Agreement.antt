@@ -1,18 +1,20 @@
 -- Writers and readers agree: the tool's writer and the board's reader on every command, the board's writer and the tool's reader on
 -- every report. All that is known of the tool's `write` and the board's `packet` are their contracts.
 use Prim.Native.Nat.{ℕ, _≤_}
-use mathlib.Core.Bool.{true}
+use mathlib.Core.Bool.{Bool, true}
 use mathlib.Core.List.{List, _++_}
 use mathlib.Core.Logic.{_⊎_}
 use mathlib.Core.Option.{none, some}
 use mathlib.Core.Path.{_≡_}
+use lib.Dec.{eqb}
 use lib.ListN.{length, take}
 use Rattle.framing.specs.Frame.{packetLength}
 use Rattle.framing.specs.Identity.{defaultId, isPassword}
 use Rattle.framing.specs.Packet.{packetRefusal, placesOf}
-use Rattle.block.specs.Encoding.{firstFunction}
+use Rattle.block.specs.Command.{Command}
+use Rattle.block.specs.Encoding.{firstFunction, every}
 use Rattle.store.specs.Laws.{Sized}
-use Rattle.board.specs.Record.{accessPoint, passwordOf, sound}
+use Rattle.board.specs.Record.{client, accessPoint, passwordOf, sound}
 use Rattle.board.specs.Refusals.{Silent, Responds}
 use Rattle.board.specs.Step.{Request, Call, call, requestOf, request, isDiscovery, decoded, reportsOf, response, Steps}
 use Rattle.board.specs.declared.Answer.the-variants.{Response}
@@ -26,6 +28,9 @@ use Rattle.tool.specs.Response as read
 use Rattle.tool.specs.declared.request.Written.{Written}
 use Rattle.tool.specs.declared.request.Written.the-variants.{Length}
 
+abbrev pub isRead : Command → Bool
+isRead command = eqb (command .function) 1
+
 -- the board reads in a packet what the tool was given to write
 pub record RequestRead (given : WriteCall) (c : Call) : Type 0 where
   pub passes : packetRefusal (c .packet) ≡ none
@@ -37,6 +42,10 @@ pub record RequestRead (given : WriteCall) (c : Call) : Type 0 where
   pub answered :
       sound (c .board) ≡ true → given .password ≡ passwordOf (c .board)
       → (given .id ≡ c .board .id) ⊎ ((c .board .mode ≡ accessPoint) × (given .id ≡ defaultId)) → 256 ≤ length (c .buffer)
+      → packetLength (response (request c)) ≤ 256 → Silent c ⊎ Responds c
+  -- nor a discovery (search) that only reads
+  pub found :
+      sound (c .board) ≡ true → c .board .mode ≡ client → given .id ≡ defaultId → every isRead (commandsOf given) ≡ true → 256 ≤ length (c .buffer)
       → packetLength (response (request c)) ≤ 256 → Silent c ⊎ Responds c
 
 -- whatever the tool writes without a refusal, for any board
