@@ -1,0 +1,30 @@
+-- The worked examples hold, by computation.
+use mathlib.Core.Path.{refl}
+use Rattle.octets.specs.Octets.{same}
+use Rattle.framing.specs.Checksum.{sum, checksum}
+use Rattle.framing.specs.Identity.{defaultId, allAlphanumeric}
+use Rattle.framing.specs.Packet.{packetRefusals, packetRefusal}
+use Rattle.framing.specs.Refusal.{firstRefusal}
+use Rattle.block.specs.Encoding.{encodeCommand, encodeCommandsFrom, encodeReport, encodeReports, every}
+use Rattle.block.specs.Reading.{whole}
+use Rattle.block.specs.Request as request
+use Rattle.block.specs.Response as response
+use Rattle.store.specs.Layout.{placesFrom}
+use Rattle.store.specs.Rows.{rows, indexIn}
+use Rattle.store.specs.Sets.{printable, firstAfter, firstBefore}
+use Rattle.store.specs.Sound.{soundRows}
+use Rattle.store.specs.Start.{lowest, startValue, startRooms, start}
+use Rattle.board.specs.Commands.{afterCommand, reported, run, runReports, discovered, discoverReports}
+use Rattle.board.specs.Measurement.{measureRefusals, measureRefusal, measuredBoard}
+use Rattle.board.specs.Record.{setUpRefusals, setUpRefusal, setUpBoard, sound}
+use Rattle.board.specs.Step.{requestRefusals, stepRefusals, stepRefusal, step}
+use Rattle.tool.specs.CommandList.{commandList}
+use Rattle.tool.specs.Listing.{hexBytes, reportLine, reportLines}
+use Rattle.tool.specs.Request.{writeRefusals, writeRefusal}
+use Rattle.tool.specs.Response.{responseRefusals, anyResponseRefusals, anyResponseRefusal}
+use Rattle.claims.specs.Examples.{happened}
+use Rattle.claims.specs.Table.{examples, ExamplesHold}
+
+pub examples-hold : ExamplesHold
+unfolding same sum checksum defaultId allAlphanumeric packetRefusals packetRefusal firstRefusal encodeCommand encodeCommandsFrom encodeReport encodeReports every whole request.items response.items placesFrom rows indexIn printable firstAfter firstBefore soundRows lowest startValue startRooms start afterCommand reported run runReports discovered discoverReports measureRefusals measureRefusal measuredBoard setUpRefusals setUpRefusal setUpBoard sound requestRefusals stepRefusals stepRefusal step commandList hexBytes reportLine reportLines writeRefusals writeRefusal responseRefusals anyResponseRefusals anyResponseRefusal happened examples
+examples-hold = refl
