@@ -22,14 +22,13 @@ use Rattle.block.specs.Reading.{isSome}
 use Rattle.block.specs.Request.{onlyReads}
 use Rattle.block.proofs.AllReads.{all-reads}
 use Rattle.block.proofs.LowBytes.{isLow, low-bytes}
-use Rattle.store.specs.declared.Answer.the-variants.{Value, Unknown, Silence as Unanswered}
+use Rattle.store.specs.declared.Answer.the-variants.{Value, Unknown}
 use Rattle.store.specs.declared.Store.{Store}
-use Rattle.store.specs.Laws.{Operation, Write, Raise, Lower, after, Sized}
+use Rattle.store.specs.Laws.{Sized}
 use Rattle.store.specs.Layout.{valueOf}
 use Rattle.store.specs.Operations.{answer}
 use Rattle.store.specs.Rows.{rows, indexIn, known}
 use Rattle.store.specs.Sound as stored
-use Rattle.store.proofs.Laws.{size-kept, sound-kept, held-length}
 use Rattle.board.specs.Answering.{answered, refusedWith, respondedWith, responded, scopeOf}
 use Rattle.model.specs.Commands.{afterCommand, reported, reportAs, run, runReports, discovered, discoverReports}
 use Rattle.board.specs.Draft.{blank, taken, extended, exceeded, reportedIn, runReportsIn, selected, ranOf, ranBehind}
@@ -40,6 +39,7 @@ use Rattle.model.specs.declared.Board.{Board}
 use Rattle.board.specs.declared.commands.Ran.{Ran}
 use Rattle.board.specs.declared.commands.Scope.{Scope}
 use Rattle.board.specs.declared.commands.Scope.the-variants.{All, Identity}
+use Rattle.model.proofs.EncodableReports.{Fit, fit-after, encodable-join, encodable-reported}
 use Rattle.model.proofs.Soundness.{sound-parts, id-length}
 use Rattle.model.proofs.StepRefusals.{request-refusal-by}
 
@@ -105,57 +105,14 @@ module _ (id : List ℕ) (store : Store) (own-id : valueOf store 0x007C ≡ id) 
       ap (λ (s : Store). reportedIn Identity s c ++ runReportsIn Identity s cs) (read-keeps store c (both .0))
       ∙ (λ i. identity-report c (both .0) i ++ identity-reports cs (both .1) i)
 
--- a store that is sound, and as long as the code has it
-record Fit (store : Store) : Type 0 where
-  size : Sized store
-  sound : stored.sound store ≡ true
-
-fit-after : (store : Store) (c : Command) → Fit store → Fit (afterCommand store c)
-unfolding afterCommand
-fit-after store c fit = by-function (eqb (c .function) 2 || eqb (c .function) 3) (eqb (c .function) 4) (eqb (c .function) 5)
-  where
-    after-operation : (o : Operation) → Fit (after o store (commandNumber c))
-    after-operation o =
-        record { size = size-kept o store (commandNumber c) (fit .size); sound = sound-kept o store (commandNumber c) (fit .size) (fit .sound) }
-
-    by-function :
-        (writes raises lowers : Bool)
-        → Fit (cond writes (after (Write (c .value)) store (commandNumber c))
-        (cond raises (after Raise store (commandNumber c)) (cond lowers (after Lower store (commandNumber c)) store)))
-    by-function true raises lowers = after-operation (Write (c .value))
-    by-function false true lowers = after-operation Raise
-    by-function false false true = after-operation Lower
-    by-function false false false = fit
-
 -- each report has a form
-all-true : (a b c d : Bool) → a ≡ true → b ≡ true → c ≡ true → d ≡ true → (a && b && c && d) ≡ true
-all-true a b c d p q r s = λ i. p i && q i && r i && s i
-
 encodable-report : (scope : Scope) (store : Store) (c : Command) → stored.sound store ≡ true → isLow c ≡ true → every encodableReport (reportedIn scope store c) ≡ true
-unfolding reported every
+unfolding every
 encodable-report scope store c sound low = by-scope (selected scope (commandNumber c))
   where
-    by-answer : (silent is-known : Bool) → known (commandNumber c) ≡ is-known
-        → every encodableReport (reportAs (cond silent Unanswered (cond is-known Value Unknown)) store c) ≡ true
-    by-answer true is-known e = refl
-    by-answer false false e = rw low
-    by-answer false true e =
-        let lengths = held-length store (commandNumber c) sound e in
-        all-true _ _ _ true low
-        (le-leb (length (valueOf store (commandNumber c))) 255 (omega (arith, lengths .1)))
-        (le-leb 1 (length (valueOf store (commandNumber c))) (lengths .0))
-        refl
-
     by-scope : (chosen : Bool) → every encodableReport (cond chosen (reported store c) []) ≡ true
-    by-scope true = by-answer (eqb (c .function) 2) (known (commandNumber c)) refl
+    by-scope true = encodable-reported store c sound low
     by-scope false = refl
-
-encodable-join : (rs qs : List Report) → every encodableReport rs ≡ true → every encodableReport qs ≡ true → every encodableReport (rs ++ qs) ≡ true
-unfolding every
-encodable-join [] qs p q = q
-encodable-join (r ∷ rs) qs p q =
-    let both = both-true (encodableReport r) (every encodableReport rs) p in
-    λ i. both .0 i && encodable-join rs qs (both .1) q i
 
 encodable-reports : (scope : Scope) (cs : List Command) (store : Store) → Fit store → every isLow cs ≡ true → every encodableReport (runReportsIn scope store cs) ≡ true
 unfolding runReportsIn every
@@ -164,7 +121,7 @@ encodable-reports scope (c ∷ cs) store fit h =
     let both = both-true (isLow c) (every isLow cs) h in
     let next : Fit (afterCommand store c) = fit-after store c fit in
     encodable-join (reportedIn scope (afterCommand store c) c) _
-    (encodable-report scope (afterCommand store c) c (next .sound) (both .0))
+    (encodable-report scope (afterCommand store c) c (next .is-sound) (both .0))
     (encodable-reports scope cs (afterCommand store c) next (both .1))
 
 -- no report is written in no bytes
@@ -229,7 +186,7 @@ module _ (r : Request) (buffer : List ℕ) (legal : sound (r .board) ≡ true) (
   writable-by block false e =
       let fit : packetLength (sent r block) ≤ 256 = ltb-false 256 (packetLength (sent r block)) e in
       let within : 0 + length (packetOf (sent r block)) ≤ length buffer = omega (arith, length-packet (sent r block), id-length (r .board) legal) in
-      all-true _ _ _ _ (eq-eqb _ _ (id-length (r .board) legal)) (le-leb _ _ short) (le-leb _ _ fit) (le-leb _ _ within)
+      λ i. eq-eqb _ _ (id-length (r .board) legal) i && le-leb _ _ short i && le-leb _ _ fit i && le-leb _ _ within i
 
   -- the written block by the reports in it
   writing-reports :
@@ -281,7 +238,7 @@ module _ (r : Request) (buffer : List ℕ) (legal : sound (r .board) ≡ true) (
 
   module _ (sized : Sized (r .board .store)) where
     store-fit : Fit (r .board .store)
-    store-fit = record { size = sized; sound = sound-parts (r .board) legal .held }
+    store-fit = record { size = sized; is-sound = sound-parts (r .board) legal .held }
 
     -- the commands of a block that is run
     run-responds :

@@ -14,10 +14,10 @@ use Rattle.store.specs.Rows.{rows, indexIn}
 use Rattle.store.specs.Sets.{printable, firstAfter, firstBefore}
 use Rattle.store.specs.Sound.{soundRows}
 use Rattle.store.specs.Start.{lowest, startValue, startRooms, start}
-use Rattle.board.specs.Commands.{afterCommand, reported, run, runReports, discovered, discoverReports}
-use Rattle.board.specs.Measurement.{measureRefusals, measureRefusal, measuredBoard}
-use Rattle.board.specs.Record.{setUpRefusals, setUpRefusal, setUpBoard, sound}
-use Rattle.board.specs.Step.{requestRefusals, stepRefusals, stepRefusal, step}
+use Rattle.model.specs.Commands.{afterCommand, reported, run, runReports, discovered, discoverReports}
+use Rattle.model.specs.Measurement.{measureRefusals, measureRefusal, measuredBoard}
+use Rattle.model.specs.Record.{setUpRefusals, setUpRefusal, setUpBoard, sound}
+use Rattle.model.specs.Step.{requestRefusals, stepRefusals, stepRefusal, step}
 use Rattle.tool.specs.CommandList.{commandList}
 use Rattle.tool.specs.Listing.{hexBytes, reportLine, reportLines}
 use Rattle.tool.specs.Request.{writeRefusals, writeRefusal}

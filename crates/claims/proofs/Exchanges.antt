@@ -2,7 +2,7 @@
 use mathlib.Core.Path.{_≡_, ap, subst, _∙_}
 use lib.ListN.{take}
 use Rattle.framing.specs.Identity.{isPassword}
-use Rattle.board.specs.Step.{Request, call, request, requestOf}
+use Rattle.model.specs.Step.{Request, call, request, requestOf}
 use Rattle.tool.specs.Request as tool
 use Rattle.claims.specs.Agreement.{ResponseRead, ExchangesAgree}
 use Rattle.claims.proofs.RequestsRead.{PacketSent, packet-sent, frame-read}

@@ -24,11 +24,11 @@ use Rattle.block.specs.Encoding.{firstFunction, encodableCommand, every}
 use Rattle.block.specs.Reading.{isSome}
 use Rattle.block.specs.Request.{commands, onlyReads}
 use Rattle.block.proofs.RoundTrips.{commands-decode}
-use Rattle.board.specs.Record.{client, accessPoint, passwordOf, sound}
-use Rattle.board.specs.Refusals.{Silent, Responds}
-use Rattle.board.specs.Step.{Request, Call, call, request, isDiscovery, decoded, response, stepRefusals, stepRefusal}
-use Rattle.board.proofs.Refused.{first-none, packets-answered, authorized-answered}
-use Rattle.board.proofs.StepRefusals.{request-refusal-by, step-refusal-by}
+use Rattle.model.specs.Record.{client, accessPoint, passwordOf, sound}
+use Rattle.model.specs.Refusals.{Silent, Responds}
+use Rattle.model.specs.Step.{Request, Call, call, request, isDiscovery, decoded, response, stepRefusals, stepRefusal}
+use Rattle.model.proofs.Refused.{first-none, packets-answered, authorized-answered}
+use Rattle.model.proofs.StepRefusals.{request-refusal-by, step-refusal-by}
 use Rattle.tool.specs.Request.{WriteCall, commandsOf, requestOf, writeRefusals, writeRefusal, writtenAs, bufferAs, Writes}
 use Rattle.tool.specs.declared.request.Written.{Written}
 use Rattle.tool.specs.declared.request.Written.the-variants.{Length}

@@ -23,19 +23,19 @@ use Rattle.block.specs.Command.{Report}
 use Rattle.block.specs.Reading.{isSome}
 use Rattle.block.specs.Response.{reports}
 use Rattle.block.proofs.RoundTrips.{reports-decode}
-use Rattle.board.specs.Record.{passwordOf, sound}
-use Rattle.board.specs.Refusals.{Silent, Responds}
-use Rattle.board.specs.Step.{Request, Call, request, isDiscovery, reportsOf, response, wrongPassword, stepRefusals, stepRefusal, Outcome, step, Steps}
-use Rattle.board.specs.declared.Answer.the-variants.{Response}
-use Rattle.board.specs.declared.Stepped.{Stepped}
-use Rattle.board.proofs.Refused.{first-none, packets-answered}
-use Rattle.board.proofs.Soundness.{sound-parts, id-length}
-use Rattle.board.proofs.StepRefusals.{step-refused, PassedRequest, passed-request, PassedStep, passed-step}
+use Rattle.model.specs.Record.{passwordOf, sound}
+use Rattle.model.specs.Refusals.{Silent, Responds}
+use Rattle.model.specs.Step.{Request, Call, request, isDiscovery, reportsOf, response, wrongPassword, stepRefusals, stepRefusal, Outcome, step, Steps}
+use Rattle.model.specs.declared.Answer.the-variants.{Response}
+use Rattle.model.specs.declared.Stepped.{Stepped}
+use Rattle.model.proofs.Refused.{first-none, packets-answered}
+use Rattle.model.proofs.Soundness.{sound-parts, id-length}
+use Rattle.model.proofs.StepRefusals.{step-refused, PassedRequest, passed-request, PassedStep, passed-step}
 use Rattle.tool.specs.Listing.{listingAs}
 use Rattle.tool.specs.Response.{readCall, readRefusal, responseAs, responseRefusals, otherId, otherPassword, noResponse}
 use Rattle.tool.proofs.Refusals.{read-by, any-by, response-by}
 use Rattle.claims.specs.Agreement.{ResponsesAgree}
-use Rattle.claims.proofs.EncodableReports.{reports-encodable}
+use Rattle.model.proofs.EncodableReports.{reports-encodable}
 use Rattle.claims.proofs.RequestsRead.{same-as}
 
 -- a packet that is responded to is not refused, and its response stands in the first bytes of the buffer

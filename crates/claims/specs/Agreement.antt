@@ -14,12 +14,12 @@ use Rattle.framing.specs.Packet.{packetRefusal, placesOf}
 use Rattle.block.specs.Command.{Command}
 use Rattle.block.specs.Encoding.{firstFunction, every}
 use Rattle.store.specs.Laws.{Sized}
-use Rattle.board.specs.Record.{client, accessPoint, passwordOf, sound}
-use Rattle.board.specs.Refusals.{Silent, Responds}
-use Rattle.board.specs.Step.{Request, Call, call, requestOf, request, isDiscovery, decoded, reportsOf, response, Steps}
-use Rattle.board.specs.declared.Answer.the-variants.{Response}
-use Rattle.board.specs.declared.Board.{Board}
-use Rattle.board.specs.declared.Stepped.{Stepped}
+use Rattle.model.specs.Record.{client, accessPoint, passwordOf, sound}
+use Rattle.model.specs.Refusals.{Silent, Responds}
+use Rattle.model.specs.Step.{Request, Call, call, requestOf, request, isDiscovery, decoded, reportsOf, response, Steps}
+use Rattle.model.specs.declared.Answer.the-variants.{Response}
+use Rattle.model.specs.declared.Board.{Board}
+use Rattle.model.specs.declared.Stepped.{Stepped}
 use Rattle.tool.specs.Listing.{reportLines, header, listing}
 use Rattle.tool.specs.Request.{WriteCall, commandsOf, Writes}
 use Rattle.tool.specs.Request as tool

@@ -7,12 +7,12 @@ use Rattle.block.specs.Command.{Command, Report}
 use Rattle.block.specs.Request.{commands}
 use Rattle.block.specs.Response.{reports}
 use Rattle.store.specs.Layout.{valueOf}
-use Rattle.board.specs.Measurement.{measureCall, measureRefusal, measuredBoard}
-use Rattle.board.specs.Record.{verdictOf, SetUp, setUpBoard}
-use Rattle.board.specs.Step.{call, step}
-use Rattle.board.specs.declared.Answer.{Answer}
-use Rattle.board.specs.declared.Board.{Board}
-use Rattle.board.specs.declared.Verdict.{Verdict}
+use Rattle.model.specs.Measurement.{measureCall, measureRefusal, measuredBoard}
+use Rattle.model.specs.Record.{verdictOf, SetUp, setUpBoard}
+use Rattle.model.specs.Step.{call, step}
+use Rattle.model.specs.declared.Answer.{Answer}
+use Rattle.model.specs.declared.Board.{Board}
+use Rattle.model.specs.declared.Verdict.{Verdict}
 use Rattle.tool.specs.Listing.{listing}
 use Rattle.tool.specs.Request.{WriteCall, writeRefusal, writtenAs, bufferAs}
 use Rattle.tool.specs.declared.request.Written.{Written}

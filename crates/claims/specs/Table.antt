@@ -5,9 +5,9 @@ use mathlib.Core.Option.{some}
 use mathlib.Core.Path.{_≡_}
 use lib.ListN.{take}
 use Rattle.block.specs.Command.{commandOf, held, unknown}
-use Rattle.board.specs.Record.{client, SetUp, setUp}
-use Rattle.board.specs.declared.Answer.the-variants.{Refused, Silence, Response}
-use Rattle.board.specs.declared.Verdict.the-variants.{Accepted}
+use Rattle.model.specs.Record.{client, SetUp, setUp}
+use Rattle.model.specs.declared.Answer.the-variants.{Refused, Silence, Response}
+use Rattle.model.specs.declared.Verdict.the-variants.{Accepted}
 use Rattle.tool.specs.Request.{writeCall}
 use Rattle.tool.specs.declared.request.Written.the-variants.{Length}
 use Rattle.claims.specs.Examples.{untouched, filled, sent, measured, holds, Line, writes, asks, tells, lists, runs, computed}

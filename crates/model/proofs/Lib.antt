@@ -5,3 +5,4 @@ pub mod Changed
 pub mod Unauthenticated
 pub mod Noninterfering
 pub mod Traced
+pub mod EncodableReports

@@ -18,17 +18,17 @@ use Rattle.store.specs.Layout.{valueOf}
 use Rattle.store.specs.Rows.{known}
 use Rattle.store.specs.Sound as stored
 use Rattle.store.proofs.Laws.{size-kept, sound-kept, held-length}
-use Rattle.board.specs.Changes.{ReportsHeld}
-use Rattle.board.specs.Commands.{afterCommand, reported, runReports, discovered, discoverReports}
-use Rattle.board.specs.Record.{micra, sound}
-use Rattle.board.specs.Step.{Request, isDiscovery, decoded, commandsOf, reportsOf}
-use Rattle.board.proofs.Changed.{values-reported}
-use Rattle.board.proofs.Soundness.{sound-parts, id-length}
+use Rattle.model.specs.Changes.{ReportsHeld}
+use Rattle.model.specs.Commands.{afterCommand, reported, runReports, discovered, discoverReports}
+use Rattle.model.specs.Record.{micra, sound}
+use Rattle.model.specs.Step.{Request, isDiscovery, decoded, commandsOf, reportsOf}
+use Rattle.model.proofs.Changed.{values-reported}
+use Rattle.model.proofs.Soundness.{sound-parts, id-length}
 
-abbrev allEncodable : List Report → Type 0
+abbrev pub allEncodable : List Report → Type 0
 allEncodable reports = every encodableReport reports ≡ true
 
-encodable-join : (left right : List Report) → allEncodable left → allEncodable right → allEncodable (left ++ right)
+pub encodable-join : (left right : List Report) → allEncodable left → allEncodable right → allEncodable (left ++ right)
 unfolding every
 encodable-join [] right l r = r
 encodable-join (first ∷ left) right l r =
@@ -41,11 +41,11 @@ unfolding every
 encodable-held c value low any short = λ i. low i && le-leb (length value) 255 short i && le-leb 1 (length value) any i && true
 
 -- a store that is sound, and as long as the code has it
-record Fit (store : Store) : Type 0 where
-  size : Sized store
-  is-sound : stored.sound store ≡ true
+pub record Fit (store : Store) : Type 0 where
+  pub size : Sized store
+  pub is-sound : stored.sound store ≡ true
 
-fit-after : (store : Store) (c : Command) → Fit store → Fit (afterCommand store c)
+pub fit-after : (store : Store) (c : Command) → Fit store → Fit (afterCommand store c)
 unfolding afterCommand
 fit-after store c fit = by-function (eqb (c .function) 2 || eqb (c .function) 3) (eqb (c .function) 4) (eqb (c .function) 5)
   where
@@ -62,7 +62,7 @@ fit-after store c fit = by-function (eqb (c .function) 2 || eqb (c .function) 3)
     by-function false false true = after-operation Lower
     by-function false false false = fit
 
-encodable-reported : (store : Store) (c : Command) → stored.sound store ≡ true → isLow c ≡ true → allEncodable (reported store c)
+pub encodable-reported : (store : Store) (c : Command) → stored.sound store ≡ true → isLow c ≡ true → allEncodable (reported store c)
 unfolding every
 encodable-reported store c is-sound low = by-answer (eqb (c .function) 2) (known (commandNumber c)) refl refl
   where
