@@ -16,7 +16,7 @@ use Rattle.framing.specs.Frame.{Frame, frame, packetOf, packetLength}
 use Rattle.framing.specs.Packet.{writable}
 use Rattle.framing.specs.Refusal.{firstRefusal}
 use Rattle.framing.proofs.Writing.{length-packet}
-use Rattle.block.specs.Command.{Command, commandNumber, Report, held, unknown, reportPage}
+use Rattle.block.specs.Command.{Command, commandNumber, isRead, Report, held, unknown, reportPage}
 use Rattle.block.specs.Encoding.{change, reportBody, encodeReport, encodeReports, encodableReport, every}
 use Rattle.block.specs.Reading.{isSome}
 use Rattle.block.specs.Request.{onlyReads}
@@ -44,9 +44,6 @@ use Rattle.model.proofs.Soundness.{sound-parts, id-length}
 use Rattle.model.proofs.StepRefusals.{request-refusal-by}
 
 -- a read leaves the store as it was
-abbrev isRead : Command → Bool
-isRead c = eqb (c .function) 1
-
 read-keeps : (store : Store) (c : Command) → isRead c ≡ true → afterCommand store c ≡ store
 unfolding afterCommand
 read-keeps store c h = rw (eqb-true (c .function) 1 h)

@@ -9,13 +9,12 @@ use lib.Dec.{leb, eqb}
 use lib.ListN.{length, take, length-append}
 use lib.Seq.{drop-at}
 use Rattle.octets.proofs.Booleans.{both-true}
-use Rattle.block.specs.Command.{Command, commandOf}
+use Rattle.block.specs.Command.{Command, commandOf, isRead}
 use Rattle.block.specs.Encoding.{change, parameter, encodeCommand, encodeCommandsFrom, firstFunction, encodeCommands, encodableLength, encodableCommand, every}
 use Rattle.block.specs.Reading.{withValue, whole, isSome}
 use Rattle.block.specs.Request.{items, defaultLength, onlyReads}
 use Rattle.block.proofs.Commands.{skip}
 use Rattle.block.proofs.Places.{some-more}
-use Rattle.claims.specs.Agreement.{isRead}
 
 abbrev wellFormed : ℕ → List ℕ → Bool
 wellFormed page block = isSome (whole (items 1 page 1 block 0))

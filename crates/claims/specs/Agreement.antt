@@ -1,17 +1,16 @@
 -- Writers and readers agree: the tool's writer and the board's reader on every command, the board's writer and the tool's reader on
 -- every report. All that is known of the tool's `write` and the board's `packet` are their contracts.
 use Prim.Native.Nat.{ℕ, _≤_}
-use mathlib.Core.Bool.{Bool, true}
+use mathlib.Core.Bool.{true}
 use mathlib.Core.List.{List, _++_}
 use mathlib.Core.Logic.{_⊎_}
 use mathlib.Core.Option.{none, some}
 use mathlib.Core.Path.{_≡_}
-use lib.Dec.{eqb}
 use lib.ListN.{length, take}
 use Rattle.framing.specs.Frame.{packetLength}
 use Rattle.framing.specs.Identity.{defaultId, isPassword}
 use Rattle.framing.specs.Packet.{packetRefusal, placesOf}
-use Rattle.block.specs.Command.{Command}
+use Rattle.block.specs.Command.{isRead}
 use Rattle.block.specs.Encoding.{firstFunction, every}
 use Rattle.store.specs.Laws.{Sized}
 use Rattle.model.specs.Record.{client, accessPoint, passwordOf, sound}
@@ -27,9 +26,6 @@ use Rattle.tool.specs.Response.{readCall, responseOf, acceptedAt}
 use Rattle.tool.specs.Response as read
 use Rattle.tool.specs.declared.request.Written.{Written}
 use Rattle.tool.specs.declared.request.Written.the-variants.{Length}
-
-abbrev pub isRead : Command → Bool
-isRead command = eqb (command .function) 1
 
 -- the board reads in a packet what the tool was given to write
 pub record RequestRead (given : WriteCall) (c : Call) : Type 0 where
