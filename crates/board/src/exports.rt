@@ -1,9 +1,13 @@
-// The board's calls for firmware in other languages: the record is lent, answers are numbers.
+// The board's calls for firmware in other languages: answers are numbers, and a packet takes the record as lent.
 use model::Answer;
+use model::Answered;
 use model::Board;
+use model::Verdict;
 ghost use mathlib.Core.Path.{_≡_};
+ghost use Rattle.model.specs.Measurement.{measureCall};
+ghost use Rattle.model.specs.Record.{setUp};
 ghost use Rattle.model.specs.Step.{call};
-ghost use Rattle.board.specs.Exports.{Replies, replyOf};
+ghost use Rattle.board.specs.Exports.{Replies, replyOf, numberOf, keptOf, setUpKept, measureKept};
 
 // The number of the refusal and the length of the response. Refusal 0: not refused; length 0 is then silence.
 #[repr(C)]
@@ -54,4 +58,47 @@ pub extern "C" fn udgornwy_packet(board: &mut Board, packet: &[u8], response: &m
     let done = packet_reply(*board, packet, response);
     *board = done.board;
     done.reply
+}
+
+// The board to keep, and the number of the refusal, 0 where there is none.
+#[repr(C)]
+pub struct Kept {
+    pub board: Board,
+    pub refusal: u16,
+}
+
+fn number_of(verdict: Verdict) -> u16
+    ensures { λ r. ⌜ r ≡ numberOf verdict ⌝ }
+{
+    match verdict {
+        Verdict::Accepted => 0,
+        Verdict::Refused(number) => number as u16,
+    }
+}
+
+fn to_keep(answered: Answered) -> Kept
+    ensures { λ r. ⌜ r ≡ keptOf (answered .board) (answered .verdict) ⌝ }
+{
+    let board = answered.board;
+    let verdict = answered.verdict;
+    Kept {
+        board,
+        refusal: number_of(verdict),
+    }
+}
+
+// Sets a board up.
+#[no_mangle]
+pub extern "C" fn udgornwy_set_up(id: &[u8], password: &[u8], mode: u8) -> Kept
+    ensures { λ r. ⌜ r ≡ setUpKept (setUp (now (id .entry)) (now (password .entry)) mode) ⌝ }
+{
+    to_keep(super::set_up(id, password, mode))
+}
+
+// Stores a measured value in its read-only row.
+#[no_mangle]
+pub extern "C" fn udgornwy_measure(board: Board, number: u16, value: &[u8]) -> Kept
+    ensures { λ r. ⌜ r ≡ measureKept (measureCall board number (now (value .entry))) ⌝ }
+{
+    to_keep(super::measure(board, number, value))
 }
