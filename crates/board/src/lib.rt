@@ -2,6 +2,7 @@
 mod checks;
 mod commands;
 mod draft;
+pub mod exports;
 mod packets;
 mod records;
 

@@ -3,6 +3,7 @@
 use store::Store;
 
 // A board's record. The password is the first `size` bytes of `password`; `mode` is the mode in force.
+#[repr(C)]
 pub struct Board {
     pub id: [u8; 16],
     pub password: [u8; 8],
