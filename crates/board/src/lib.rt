@@ -2,7 +2,6 @@
 mod checks;
 mod commands;
 mod draft;
-pub mod exports;
 mod packets;
 mod records;
 
