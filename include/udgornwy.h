@@ -8,7 +8,7 @@
  *  - A slice is a pointer and a count. The pointer must not be null, also where the count is 0, and must not be used by another call at
  *    the same time. Buffers that are written to must not overlap any other argument.
  *  - A refusal is a number above 0. Where several apply, the lowest is given; for the tool, the first in the order listed.
- *  - A refused call leaves the record and every buffer as they were. (Set-up alone writes the record also where it is refused.)
+ *  - A refused call leaves the record and every buffer as they were.
  *  - Values of several bytes have the low byte first.
  */
 #ifndef UDGORNWY_H
@@ -30,8 +30,8 @@ enum {
 };
 
 /*
- * A board's record. It is made by udgornwy_set_up and changed by udgornwy_packet and udgornwy_measure; nothing else may write to it. It may be
- * copied byte for byte, also to flash and back: a record that no set-up and no call could have left is refused with 70.
+ * A board's record. It is made by udgornwy_set_up and changed by udgornwy_packet and udgornwy_measure. It may be copied byte for byte, also
+ * to flash and back: each call looks at the record that it is given, and refuses with 70 one that no board can have.
  */
 typedef struct {
     uint8_t id[UDGORNWY_ID];
@@ -41,10 +41,16 @@ typedef struct {
     uint8_t store[UDGORNWY_STORE];
 } udgornwy_board;
 
+/* What set-up and a measurement answer: keep the board also where they are refused. */
+typedef struct {
+    udgornwy_board board;
+    uint16_t refusal; /* 0: not refused */
+} udgornwy_kept;
+
 /* What a call that writes a buffer answers. */
 typedef struct {
     uint16_t refusal; /* 0: not refused */
-    uint16_t length;  /* bytes written to the buffer's start, the rest stays; 0 where refused */
+    size_t length;    /* bytes written to the buffer's start, the rest stays; 0 where refused */
 } udgornwy_reply;
 
 _Static_assert(sizeof(udgornwy_board) == 253, "the record has 253 bytes");
@@ -52,23 +58,26 @@ _Static_assert(offsetof(udgornwy_board, password) == 16, "the password follows t
 _Static_assert(offsetof(udgornwy_board, size) == 24, "the password's size follows its bytes");
 _Static_assert(offsetof(udgornwy_board, mode) == 25, "the mode follows the password's size");
 _Static_assert(offsetof(udgornwy_board, store) == 26, "the values follow the mode");
-_Static_assert(sizeof(udgornwy_reply) == 4, "the reply has two numbers of two bytes");
-_Static_assert(offsetof(udgornwy_reply, length) == 2, "the length follows the refusal");
+_Static_assert(sizeof(udgornwy_kept) == 256, "the record and the refusal have 256 bytes");
+_Static_assert(offsetof(udgornwy_kept, refusal) == 254, "the refusal stands at an even place behind the record");
+_Static_assert(sizeof(udgornwy_reply) == 2 * sizeof(size_t), "the refusal takes the room of a length");
+_Static_assert(offsetof(udgornwy_reply, length) == sizeof(size_t), "the length follows the refusal");
 
 /* ---- The board: libboard.a ---- */
 
 /*
  * Makes the start record of an ID, a password and a mode.
- * Answers 0, or
+ * Refusals:
  *   20  the ID has not 16 bytes, or is DEFAULT_DEVICEID
  *   21  the password has more than 8 bytes, or one that is not of 0-9, a-z, A-Z
  *   22  the mode is neither 1 (client) nor 2 (access point)
- * and then the record is that of a zero ID, an empty password and mode client.
+ * The board is then that of a zero ID, an empty password and mode client.
  */
-uint16_t udgornwy_set_up(udgornwy_board *board, const uint8_t *id, size_t id_length, const uint8_t *password, size_t password_length, uint8_t mode);
+udgornwy_kept udgornwy_set_up(const uint8_t *id, size_t id_length, const uint8_t *password, size_t password_length, uint8_t mode);
 
 /*
- * Takes one UDP payload of any length, makes the changes that its commands call for, and writes the response, if there is one.
+ * Takes one UDP payload of any length, makes the changes that its commands call for in the record, and writes the response, if there is
+ * one.
  * response needs 256 bytes. Send its first `length` bytes to the packet's sender; with length 0, refused or not, send nothing.
  * Refusals:
  *   70  the record is not one that set-up and calls leave
@@ -88,13 +97,14 @@ uint16_t udgornwy_set_up(udgornwy_board *board, const uint8_t *id, size_t id_len
 udgornwy_reply udgornwy_packet(udgornwy_board *board, const uint8_t *packet, size_t packet_length, uint8_t *response, size_t response_length);
 
 /*
- * Stores a measured value in its read-only row. A measured temperature is in signed tenths of a degree, two bytes: -5.0 degrees is CE FF.
- * Answers 0, or
+ * The record with a measured value in its read-only row. A measured temperature is in signed tenths of a degree, two bytes: -5.0 degrees
+ * is CE FF.
+ * Refusals, with the board that was given:
  *   70  the record is not one that set-up and calls leave
  *   30  the number is no read-only row, or is 0x007C or 0x00B9
  *   31  the value has not the row's length
  */
-uint16_t udgornwy_measure(udgornwy_board *board, uint16_t number, const uint8_t *value, size_t value_length);
+udgornwy_kept udgornwy_measure(udgornwy_board board, uint16_t number, const uint8_t *value, size_t value_length);
 
 /* ---- The tool: libtool.a ---- */
 

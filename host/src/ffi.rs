@@ -22,10 +22,17 @@ pub struct Board {
 
 const _: () = assert!(std::mem::size_of::<Board>() == 253);
 
+/// The board to keep, and the number of the refusal, 0 where there is none.
+#[repr(C)]
+struct Kept {
+    board: Board,
+    refusal: u16,
+}
+
 #[repr(C)]
 struct Reply {
     refusal: u16,
-    length: u16,
+    length: usize,
 }
 
 /// What a packet is answered with.
@@ -46,13 +53,12 @@ pub struct Command {
 
 extern "C" {
     fn udgornwy_set_up(
-        board: *mut Board,
         id: *const u8,
         id_length: usize,
         password: *const u8,
         password_length: usize,
         mode: u8,
-    ) -> u16;
+    ) -> Kept;
     fn udgornwy_packet(
         board: *mut Board,
         packet: *const u8,
@@ -60,12 +66,7 @@ extern "C" {
         response: *mut u8,
         response_length: usize,
     ) -> Reply;
-    fn udgornwy_measure(
-        board: *mut Board,
-        number: u16,
-        value: *const u8,
-        value_length: usize,
-    ) -> u16;
+    fn udgornwy_measure(board: Board, number: u16, value: *const u8, value_length: usize) -> Kept;
     fn udgornwy_write(
         buffer: *mut u8,
         buffer_length: usize,
@@ -100,17 +101,9 @@ extern "C" {
 
 /// Sets a board up.
 pub fn set_up(id: &[u8], password: &[u8], mode: u8) -> Result<Board, Refusal> {
-    let mut board = Board {
-        id: [0; ID_SIZE],
-        password: [0; 8],
-        size: 0,
-        mode: 0,
-        store: [0; 227],
-    };
-    // SAFETY: the record and the slices are live, and none overlaps the record.
-    let refusal = unsafe {
+    // SAFETY: both slices are live.
+    let kept = unsafe {
         udgornwy_set_up(
-            &mut board,
             id.as_ptr(),
             id.len(),
             password.as_ptr(),
@@ -118,7 +111,7 @@ pub fn set_up(id: &[u8], password: &[u8], mode: u8) -> Result<Board, Refusal> {
             mode,
         )
     };
-    accepted(refusal).map(|()| board)
+    accepted(kept.refusal).map(|()| kept.board)
 }
 
 /// Takes a packet of any length.
@@ -141,10 +134,11 @@ pub fn packet(board: &mut Board, packet: &[u8]) -> Answer {
     }
 }
 
-/// Stores a measured value.
-pub fn measure(board: &mut Board, number: u16, value: &[u8]) -> Result<(), Refusal> {
-    // SAFETY: the record and the slice are live, and do not overlap.
-    accepted(unsafe { udgornwy_measure(board, number, value.as_ptr(), value.len()) })
+/// The board with a measured value.
+pub fn measure(board: Board, number: u16, value: &[u8]) -> Result<Board, Refusal> {
+    // SAFETY: the slice is live.
+    let kept = unsafe { udgornwy_measure(board, number, value.as_ptr(), value.len()) };
+    accepted(kept.refusal).map(|()| kept.board)
 }
 
 /// Writes the request of some commands.
@@ -216,8 +210,7 @@ fn accepted(refusal: u16) -> Result<(), Refusal> {
 /// The bytes that a call has written.
 fn written<'a>(reply: &Reply, buffer: &'a [u8]) -> Result<&'a [u8], Refusal> {
     accepted(reply.refusal)?;
-    let length = usize::from(reply.length).min(buffer.len());
-    Ok(&buffer[..length])
+    Ok(&buffer[..reply.length.min(buffer.len())])
 }
 
 /// A length past 65,535 does not add up with the value's bytes, which the library refuses with 41.

@@ -51,7 +51,7 @@ fn make_board(settings: &Settings) -> Result<Board, String> {
     let board = ffi::set_up(&settings.id, &settings.password, settings.mode);
     let mut board = board.map_err(|refusal| format!("the set-up is {refusal}"))?;
     for (number, value) in &settings.measured {
-        ffi::measure(&mut board, *number, value)
+        board = ffi::measure(board, *number, value)
             .map_err(|refusal| format!("the measured value of 0x{number:04X} is {refusal}"))?;
     }
     Ok(board)
