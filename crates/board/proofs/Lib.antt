@@ -1,10 +1,3 @@
-pub mod StepRefusals
-pub mod Soundness
-pub mod Refused
-pub mod Changed
-pub mod Unauthenticated
-pub mod Noninterfering
-pub mod Traced
 pub mod Drafts
 pub mod Running
 pub mod Turns

@@ -25,14 +25,14 @@ use Rattle.block.specs.Encoding.{encodableReport, encodeReports, every}
 use Rattle.block.specs.Request.{commands}
 use Rattle.store.specs.declared.Store.{Store}
 use Rattle.board.specs.Answering.{Leaves, answered, inIdentity, numberIn, refusedWith, responded, respondedIn, respondedWith, responseOf, scopeOf}
-use Rattle.board.specs.Commands.{run}
+use Rattle.model.specs.Commands.{run}
 use Rattle.board.specs.Draft.{blank, exceeded, extended, ranBehind, ranBlock, ranOf, runReportsIn, taken}
-use Rattle.board.specs.Record.{withStore}
-use Rattle.board.specs.Step.{Call, Outcome, Request, Steps, step, outcomeOf, isDiscovery, otherId, wrongPassword, wrongFunction, malformed, discoveryWrites}
-use Rattle.board.specs.declared.Answer.{Answer}
-use Rattle.board.specs.declared.Answer.the-variants.{Refused, Response, Silence}
-use Rattle.board.specs.declared.Board.{Board}
-use Rattle.board.specs.declared.Stepped.{Stepped}
+use Rattle.model.specs.Record.{withStore}
+use Rattle.model.specs.Step.{Call, Outcome, Request, Steps, step, outcomeOf, isDiscovery, otherId, wrongPassword, wrongFunction, malformed, discoveryWrites}
+use Rattle.model.specs.declared.Answer.{Answer}
+use Rattle.model.specs.declared.Answer.the-variants.{Refused, Response, Silence}
+use Rattle.model.specs.declared.Board.{Board}
+use Rattle.model.specs.declared.Stepped.{Stepped}
 use Rattle.board.specs.declared.commands.Ran.{Ran}
 use Rattle.board.specs.declared.commands.Scope.{Scope}
 use Rattle.board.specs.declared.draft.Room.{Room}

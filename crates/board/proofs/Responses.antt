@@ -31,17 +31,17 @@ use Rattle.store.specs.Rows.{rows, indexIn, known}
 use Rattle.store.specs.Sound as stored
 use Rattle.store.proofs.Laws.{size-kept, sound-kept, held-length}
 use Rattle.board.specs.Answering.{answered, refusedWith, respondedWith, responded, scopeOf}
-use Rattle.board.specs.Commands.{afterCommand, reported, reportAs, run, runReports, discovered, discoverReports}
+use Rattle.model.specs.Commands.{afterCommand, reported, reportAs, run, runReports, discovered, discoverReports}
 use Rattle.board.specs.Draft.{blank, taken, extended, exceeded, reportedIn, runReportsIn, selected, ranOf, ranBehind}
-use Rattle.board.specs.Record.{sound, micra, withStore}
-use Rattle.board.specs.Step.{Request, isDiscovery, decoded, reportsOf, otherId, wrongPassword, wrongFunction, malformed, discoveryWrites, longResponse, requestRefusals, Outcome, outcomeOf, nextBoard, answerWith, outcomeBy}
-use Rattle.board.specs.declared.Answer.the-variants.{Silence, Response}
-use Rattle.board.specs.declared.Board.{Board}
+use Rattle.model.specs.Record.{sound, micra, withStore}
+use Rattle.model.specs.Step.{Request, isDiscovery, decoded, reportsOf, otherId, wrongPassword, wrongFunction, malformed, discoveryWrites, longResponse, requestRefusals, Outcome, outcomeOf, nextBoard, answerWith, outcomeBy}
+use Rattle.model.specs.declared.Answer.the-variants.{Silence, Response}
+use Rattle.model.specs.declared.Board.{Board}
 use Rattle.board.specs.declared.commands.Ran.{Ran}
 use Rattle.board.specs.declared.commands.Scope.{Scope}
 use Rattle.board.specs.declared.commands.Scope.the-variants.{All, Identity}
-use Rattle.board.proofs.Soundness.{sound-parts, id-length}
-use Rattle.board.proofs.StepRefusals.{request-refusal-by}
+use Rattle.model.proofs.Soundness.{sound-parts, id-length}
+use Rattle.model.proofs.StepRefusals.{request-refusal-by}
 
 -- a read leaves the store as it was
 abbrev isRead : Command → Bool

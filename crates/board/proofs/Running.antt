@@ -11,7 +11,7 @@ use Rattle.store.specs.declared.Answer.{Answer}
 use Rattle.store.specs.declared.Store.{Store}
 use Rattle.store.specs.Rows.{isIdentity}
 use Rattle.store.specs.Operations.{written, raised, lowered, answer}
-use Rattle.board.specs.Commands.{afterCommand, reported, reportAs}
+use Rattle.model.specs.Commands.{afterCommand, reported, reportAs}
 use Rattle.board.specs.declared.commands.Scope.{Scope}
 use Rattle.board.specs.declared.draft.Draft.{Draft}
 use Rattle.board.specs.Draft.{drafted, reportedIn, selected}

@@ -25,11 +25,11 @@ use Rattle.store.proofs.Measurement as Measurement
 use denote.Enum.Declared.{tagOf}
 use types.Run.{OneOf}
 use mathlib.Core.Logic.{_⊎_, ⊎-elim}
-use Rattle.board.specs.Measurement.{MeasureCall, MeasuresBoard, measureRefusal, measureRefusals, measuredBoard, measuredBy}
-use Rattle.board.specs.Record.{sound, micra, passwordOf, SetUp, SetsUp, isId, isMode, setUpBoard, setUpRefusal, setUpRefusals, startBoard, unset, verdictOf, boardOf}
-use Rattle.board.specs.declared.Answered.{Answered}
-use Rattle.board.specs.declared.Board.{Board}
-use Rattle.board.specs.declared.Verdict.the-variants.{Accepted, Refused}
+use Rattle.model.specs.Measurement.{MeasureCall, MeasuresBoard, measureRefusal, measureRefusals, measuredBoard, measuredBy}
+use Rattle.model.specs.Record.{sound, micra, passwordOf, SetUp, SetsUp, isId, isMode, setUpBoard, setUpRefusal, setUpRefusals, startBoard, unset, verdictOf, boardOf}
+use Rattle.model.specs.declared.Answered.{Answered}
+use Rattle.model.specs.declared.Board.{Board}
+use Rattle.model.specs.declared.Verdict.the-variants.{Accepted, Refused}
 
 drop-replicate : (n m : ℕ) → drop {A = ℕ} n (replicate m 0) ≡ replicate (m - n) 0
 drop-replicate zero m = simp unary-clauses

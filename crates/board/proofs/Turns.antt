@@ -14,7 +14,7 @@ use Rattle.octets.proofs.Overwriting.{length-overwrite}
 use Rattle.block.specs.Command.{Command, Report}
 use Rattle.block.specs.Encoding.{encodeReports, lastPage, encodableReport, every}
 use Rattle.store.specs.declared.Store.{Store}
-use Rattle.board.specs.Commands.{afterCommand, run}
+use Rattle.model.specs.Commands.{afterCommand, run}
 use Rattle.board.specs.declared.commands.Ran.{Ran}
 use Rattle.board.specs.declared.commands.Scope.{Scope}
 use Rattle.board.specs.declared.draft.Draft.{Draft}

@@ -12,11 +12,11 @@ use Rattle.framing.specs.declared.Parsed.{Parsed}
 use Rattle.framing.specs.declared.Parsed.the-variants.{Frame as Places, Refused as Not}
 use Rattle.store.specs.Start.{start}
 use Rattle.board.specs.Draft.{ranBlock}
-use Rattle.board.specs.Record.{withStore}
-use Rattle.board.specs.Step.{Request, Outcome, outcomeOf, isDiscovery, otherId, wrongPassword, wrongFunction, malformed, discoveryWrites}
-use Rattle.board.specs.declared.Answer.the-variants.{Refused, Silence, Response}
-use Rattle.board.specs.declared.Board.{Board}
-use Rattle.board.specs.declared.Stepped.{Stepped}
+use Rattle.model.specs.Record.{withStore}
+use Rattle.model.specs.Step.{Request, Outcome, outcomeOf, isDiscovery, otherId, wrongPassword, wrongFunction, malformed, discoveryWrites}
+use Rattle.model.specs.declared.Answer.the-variants.{Refused, Silence, Response}
+use Rattle.model.specs.declared.Board.{Board}
+use Rattle.model.specs.declared.Stepped.{Stepped}
 use Rattle.board.specs.declared.checks.Check.{Check}
 use Rattle.board.specs.declared.checks.Check.the-variants.{Passed, Failed}
 use Rattle.board.specs.declared.commands.Ran.{Ran}

@@ -10,7 +10,7 @@ use Rattle.block.specs.Encoding.{encodeReports, lastPage, encodableReport, ever
 use Rattle.block.specs.Request.{commands}
 use Rattle.store.specs.declared.Store.{Store}
 use Rattle.store.specs.Rows.{isIdentity}
-use Rattle.board.specs.Commands.{afterCommand, reported, run}
+use Rattle.model.specs.Commands.{afterCommand, reported, run}
 use Rattle.board.specs.declared.draft.Draft.{Draft}
 use Rattle.board.specs.declared.draft.Room.{Room}
 use Rattle.board.specs.declared.draft.Room.the-variants.{Left, Over}

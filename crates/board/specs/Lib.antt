@@ -1,13 +1,3 @@
-pub mod Record
-pub mod Commands
-pub mod Step
 pub mod Draft
 pub mod Answering
-pub mod Measurement
-pub mod Authentication
-pub mod Refusals
-pub mod Changes
-pub mod Discovery
-pub mod PublicReply
-pub mod Noninterference
-pub mod Trace
+pub mod Exports

@@ -8,7 +8,7 @@ ghost use Rattle.framing.specs.Identity.{defaultId, isPassword};
 ghost use Rattle.block.specs.Reading.{isSome};
 ghost use Rattle.block.specs.Request.{commands, onlyReads};
 ghost use Rattle.board.specs.Answering.{checked, scopeOf, inIdentity};
-ghost use Rattle.board.specs.Record.{client, isId, isMode};
+ghost use Rattle.model.specs.Record.{client, isId, isMode};
 
 pub enum Check {
     Passed,

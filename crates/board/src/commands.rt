@@ -7,7 +7,7 @@ use store::Answer;
 use store::Store;
 ghost use mathlib.Core.Path.{_≡_};
 ghost use Rattle.block.specs.Command.{commandOf, parameterNumber};
-ghost use Rattle.board.specs.Commands.{afterCommand};
+ghost use Rattle.model.specs.Commands.{afterCommand};
 ghost use Rattle.board.specs.Draft.{blank, drafted, exceeded, ranBlock, ranCommand, ranOf, reportedIn, selected};
 
 // Which parameters are reported: in a discovery only the ID and the unit type.

@@ -2,48 +2,16 @@
 mod checks;
 mod commands;
 mod draft;
+pub mod exports;
 mod packets;
 mod records;
 
-use store::Store;
-ghost use Rattle.board.specs.Measurement.{MeasuresBoard, measureCall};
-ghost use Rattle.board.specs.Record.{SetsUp, setUp};
-ghost use Rattle.board.specs.Step.{Steps, call};
-
-// A board's record. The password is the first `size` bytes of `password`; `mode` is the mode in force.
-pub struct Board {
-    pub id: [u8; 16],
-    pub password: [u8; 8],
-    pub size: u8,
-    pub mode: u8,
-    pub store: Store,
-}
-
-// What set-up and a measurement are answered with.
-pub enum Verdict {
-    Accepted,
-    // The number of the refusal.
-    Refused(u8),
-}
-
-pub struct Answered {
-    pub board: Board,
-    pub verdict: Verdict,
-}
-
-// What a packet is answered with.
-pub enum Answer {
-    // The number of the refusal.
-    Refused(u8),
-    Silence,
-    // The length of the response.
-    Response(usize),
-}
-
-pub struct Stepped {
-    pub board: Board,
-    pub answer: Answer,
-}
+use model::Answered;
+use model::Board;
+use model::Stepped;
+ghost use Rattle.model.specs.Measurement.{MeasuresBoard, measureCall};
+ghost use Rattle.model.specs.Record.{SetsUp, setUp};
+ghost use Rattle.model.specs.Step.{Steps, call};
 
 // Sets a board up with an ID, a password and the mode in force. A refused set-up gives a board too: zero ID, no password, client.
 pub fn set_up(id: &[u8], password: &[u8], mode: u8) -> Answered

@@ -1,7 +1,4 @@
 // What a packet is answered with.
-use super::Answer;
-use super::Board;
-use super::Stepped;
 use super::checks;
 use super::checks::Check;
 use super::commands;
@@ -10,10 +7,13 @@ use super::draft::Room;
 use super::records;
 use framing::Parsed;
 use framing::Written;
+use model::Answer;
+use model::Board;
+use model::Stepped;
 ghost use mathlib.Core.Path.{_≡_};
 ghost use Rattle.framing.specs.Frame.{frame};
 ghost use Rattle.board.specs.Answering.{Leaves, answered, numberIn, responded};
-ghost use Rattle.board.specs.Step.{Steps, call, requestOf};
+ghost use Rattle.model.specs.Step.{Steps, call, requestOf};
 
 fn refused(board: Board, number: u8) -> Stepped
     ensures { λ r. ⌜ (r .board ≡ board) × (r .answer ≡ Answer.Refused number) ⌝ }

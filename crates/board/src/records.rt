@@ -1,10 +1,10 @@
 // A board's record: made by set-up, and judged by every call that takes one.
-use super::Answered;
-use super::Board;
-use super::Verdict;
 use super::checks;
 use super::checks::Check;
 use super::commands::Scope;
+use model::Answered;
+use model::Board;
+use model::Verdict;
 use store::Measurement;
 use store::Store;
 ghost use mathlib.Core.Bool.{not, _&&_};
@@ -14,8 +14,8 @@ ghost use Rattle.store.specs.Layout.{valueOf};
 ghost use Rattle.store.specs.Operations.{refusalOf};
 ghost use Rattle.store.specs.Sound.{sound as rowsSound};
 ghost use Rattle.board.specs.Answering.{checked, inIdentity, laid, recordOf};
-ghost use Rattle.board.specs.Measurement.{MeasuresBoard, measureCall};
-ghost use Rattle.board.specs.Record.{SetsUp, micra, passwordOf, setUp, sound, startBoard, unset, withStore};
+ghost use Rattle.model.specs.Measurement.{MeasuresBoard, measureCall};
+ghost use Rattle.model.specs.Record.{SetsUp, micra, passwordOf, setUp, sound, startBoard, unset, withStore};
 
 fn in_sixteen(bytes: &[u8]) -> [u8; 16]
     ensures { λ r. ⌜ r ≡ laid 16 (now (bytes .entry)) ⌝ }

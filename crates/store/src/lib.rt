@@ -34,6 +34,7 @@ use temperatures::read_measured;
 use temperatures::store_value;
 
 // A store: each row's value in its room, the rooms one behind the other.
+#[repr(C)]
 pub struct Store {
     pub bytes: [u8; 227],
 }

@@ -7,7 +7,7 @@ use denote.Ref.{now}
 use Rattle.block.specs.Command.{commandOf, held}
 use Rattle.store.specs.declared.Answer.{Answer}
 use Rattle.store.specs.Layout.{valueIn}
-use Rattle.board.specs.Commands.{reportAs}
+use Rattle.model.specs.Commands.{reportAs}
 use Rattle.board.specs.Draft.{drafted}
 use Rattle.board.proofs.Running.{passed-over, answered-as}
 use borrow.Author.Needs.{needs}

@@ -16,12 +16,12 @@ use Rattle.framing.specs.declared.Places.{Places}
 use Rattle.store.specs.Laws.{Sized}
 use Rattle.framing.specs.Refusal.{firstRefusal}
 use Rattle.board.specs.Answering.{answered}
-use Rattle.board.specs.Step.{Request, call, outcomeBy, request, requestOf, step}
-use Rattle.board.specs.declared.Answer.the-variants.{Refused}
+use Rattle.model.specs.Step.{Request, call, outcomeBy, request, requestOf, step}
+use Rattle.model.specs.declared.Answer.the-variants.{Refused}
 use Rattle.board.proofs.Checking.{passed, failed}
 use Rattle.board.proofs.Responding.{leaves, leaves-as, steps, refused-number, accepted-places, password-short, within}
 use Rattle.board.proofs.Responses.{answered-outcome}
-use Rattle.board.proofs.StepRefusals.{step-refusal-by, step-refused}
+use Rattle.model.proofs.StepRefusals.{step-refusal-by, step-refused}
 use borrow.Author.Needs.{needs}
 use Rattle.board.proofs.packets.packet.Statement.{statement}
 use Rattle.board.proofs.packets.packet.Tie as tie

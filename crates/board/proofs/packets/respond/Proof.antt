@@ -6,11 +6,11 @@ use denote.Ref.{now}
 use native.Mathlib.Omega.{arith}
 use Rattle.framing.specs.Frame.{frame}
 use Rattle.board.specs.Answering.{respondedWith, responded, inIdentity, checked, scopeOf}
-use Rattle.board.specs.Step.{requestOf, isDiscovery}
-use Rattle.board.specs.Record.{passwordOf}
+use Rattle.model.specs.Step.{requestOf, isDiscovery}
+use Rattle.model.specs.Record.{passwordOf}
 use Rattle.board.specs.declared.commands.Ran.{Ran}
 use Rattle.board.specs.declared.commands.Scope.{Scope}
-use Rattle.board.specs.declared.Answer.the-variants.{Response}
+use Rattle.model.specs.declared.Answer.the-variants.{Response}
 use Rattle.board.proofs.Responding.{leaves, leaves-as, ran-inside, responded-over, responded-silent, responded-long, responded-full, frame-written, frame-not-written, answered-by, scope-told}
 use Rattle.board.proofs.Checking.{passed, failed}
 use borrow.Author.Needs.{needs}

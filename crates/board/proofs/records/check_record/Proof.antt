@@ -12,7 +12,7 @@ use lib.Seq.{take-all, length-take-le}
 use Rattle.octets.proofs.Booleans.{both-true}
 use Rattle.framing.specs.Identity.{allAlphanumeric, isPassword}
 use Rattle.board.specs.Answering.{checked}
-use Rattle.board.specs.Record.{isId, isMode, passwordOf}
+use Rattle.model.specs.Record.{isId, isMode, passwordOf}
 use Rattle.board.proofs.Checking.{passed, failed}
 use Rattle.board.proofs.Starting.{unsound-id, unsound-size, unsound-password, unsound-mode, sound-rows, wrong-characters}
 use borrow.Author.Needs.{needs}

@@ -9,7 +9,7 @@ use Rattle.octets.specs.Octets.{same}
 use Rattle.store.specs.Layout.{valueOf}
 use Rattle.store.specs.Sound.{sound as rowsSound}
 use Rattle.board.specs.Answering.{checked}
-use Rattle.board.specs.Record.{micra}
+use Rattle.model.specs.Record.{micra}
 use borrow.Author.Needs.{needs}
 use Rattle.board.proofs.records.check_rows.Statement.{statement}
 use Rattle.board.proofs.records.check_rows.Tie as tie

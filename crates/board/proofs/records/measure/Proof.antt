@@ -2,9 +2,9 @@
 use mathlib.Core.Path.{_≡_, refl, sym, ap, _∙_}
 use denote.Ref.{now}
 use Rattle.store.specs.declared.Store.{Store}
-use Rattle.board.specs.Measurement.{measureCall}
-use Rattle.board.specs.Record.{withStore}
-use Rattle.board.specs.declared.Verdict.the-variants.{Refused}
+use Rattle.model.specs.Measurement.{measureCall}
+use Rattle.model.specs.Record.{withStore}
+use Rattle.model.specs.declared.Verdict.the-variants.{Refused}
 use Rattle.board.proofs.Checking.{passed, failed}
 use Rattle.board.proofs.Starting.{measure-refusal-by, measure-refused, measure-accepted, measured-as}
 use borrow.Author.Needs.{needs}

@@ -3,7 +3,7 @@ use mathlib.Core.Path.{_≡_, refl, sym, ap, _∙_}
 use mathlib.Core.Bool.{Bool, true, false, not, _&&_, _||_}
 use borrow.Author.Tests.{not-false}
 use denote.Ref.{now}
-use Rattle.board.specs.Record.{setUp}
+use Rattle.model.specs.Record.{setUp}
 use Rattle.board.proofs.Checking.{passed, failed}
 use Rattle.board.proofs.Starting.{set-up-refusal-by, refused-set-up, record-start, accepted-set-up}
 use borrow.Author.Needs.{needs}

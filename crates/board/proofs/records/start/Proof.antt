@@ -8,7 +8,7 @@ use Prim.Native.Nat.{ℕ}
 use lib.ListN.{length}
 use Rattle.store.specs.Start.{start as startStore}
 use Rattle.board.specs.Answering.{laid}
-use Rattle.board.specs.declared.Board.{Board}
+use Rattle.model.specs.declared.Board.{Board}
 use borrow.Author.Needs.{needs}
 use Rattle.board.proofs.records.start.Statement.{statement}
 use Rattle.board.proofs.records.start.Tie as tie

@@ -11,12 +11,12 @@ use Rattle.framing.specs.Frame.{packetOf, packetLength}
 use Rattle.framing.specs.Identity.{defaultId}
 use Rattle.framing.specs.Refusal.{Refusal}
 use Rattle.block.specs.Reading.{isSome}
-use Rattle.board.specs.Authentication.{bears}
-use Rattle.board.specs.Measurement.{MeasureCall, measureRefusals, measureRefusal, measuredBoard}
-use Rattle.board.specs.Record.{verdictOf, accessPoint, passwordOf, SetUp, setUpRefusals, setUpRefusal, setUpBoard, startBoard, unset, sound}
-use Rattle.board.specs.Step.{Call, request, decoded, reportsOf, response, stepRefusals, step}
-use Rattle.board.specs.declared.Answer.the-variants as answer
-use Rattle.board.specs.declared.Verdict.the-variants as verdict
+use Rattle.model.specs.Authentication.{bears}
+use Rattle.model.specs.Measurement.{MeasureCall, measureRefusals, measureRefusal, measuredBoard}
+use Rattle.model.specs.Record.{verdictOf, accessPoint, passwordOf, SetUp, setUpRefusals, setUpRefusal, setUpBoard, startBoard, unset, sound}
+use Rattle.model.specs.Step.{Call, request, decoded, reportsOf, response, stepRefusals, step}
+use Rattle.model.specs.declared.Answer.the-variants as answer
+use Rattle.model.specs.declared.Verdict.the-variants as verdict
 
 -- the condition of refusal `number` holds, and none before it in the list
 pub data Earliest {Asked : Type 0} : List (Refusal Asked) → Asked → ℕ → Type 0 where

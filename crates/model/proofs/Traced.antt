@@ -2,12 +2,12 @@
 use Prim.Native.Nat.{ℕ}
 use mathlib.Core.List.{List, _∷_}
 use mathlib.Core.Path.{_≡_, refl, sym, ap, subst, subst₂, _∙_}
-use Rattle.board.specs.Discovery.{Reply, replyOf}
-use Rattle.board.specs.Noninterference.{ListedCall, replied, judged, boardAfter, returned, Unauthenticated, ends, returns, Alike, Discoverable, Claim}
-use Rattle.board.specs.Record.{passwordOf}
-use Rattle.board.specs.Trace.{OwnMade, packetMade, measurementMade, Trace, ended, madeBoth, madeFirst, madeSecond, ownCall, ownReturned, callsOf, endsOf, returnsOf, AlikeMade, DiscoverableMade, TraceClaim, TraceNoninterference}
-use Rattle.board.specs.declared.Board.{Board}
-use Rattle.board.proofs.Noninterfering.{noninterference}
+use Rattle.model.specs.Discovery.{Reply, replyOf}
+use Rattle.model.specs.Noninterference.{ListedCall, replied, judged, boardAfter, returned, Unauthenticated, ends, returns, Alike, Discoverable, Claim}
+use Rattle.model.specs.Record.{passwordOf}
+use Rattle.model.specs.Trace.{OwnMade, packetMade, measurementMade, Trace, ended, madeBoth, madeFirst, madeSecond, ownCall, ownReturned, callsOf, endsOf, returnsOf, AlikeMade, DiscoverableMade, TraceClaim, TraceNoninterference}
+use Rattle.model.specs.declared.Board.{Board}
+use Rattle.model.proofs.Noninterfering.{noninterference}
 
 -- a call returned what the definition gives
 own-board : {board next : Board} (own : OwnMade board next) → next ≡ boardAfter board (ownCall own)

@@ -10,9 +10,9 @@ use Rattle.framing.specs.Refusal.{Refusal, refusal, firstRefusal}
 use Rattle.store.specs.Layout.{sizeOf}
 use Rattle.store.specs.Operations.{measurable, measured}
 use Rattle.store.specs.Rows.{rowOf}
-use Rattle.board.specs.Record.{sound, verdictOf, withStore}
-use Rattle.board.specs.declared.Answered.{Answered}
-use Rattle.board.specs.declared.Board.{Board}
+use Rattle.model.specs.Record.{sound, verdictOf, withStore}
+use Rattle.model.specs.declared.Answered.{Answered}
+use Rattle.model.specs.declared.Board.{Board}
 
 pub record MeasureCall : Type 0 where
   pub board : Board

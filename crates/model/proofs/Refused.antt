@@ -21,15 +21,15 @@ use Rattle.framing.proofs.Refusals.{not-refused}
 use Rattle.framing.proofs.Writing.{length-packet}
 use Rattle.block.specs.Command.{Report}
 use Rattle.block.specs.Request.{onlyReads}
-use Rattle.board.specs.Authentication.{passes}
-use Rattle.board.specs.Measurement.{measureRefusals, measureRefusal, measuredBy, measuredBoard}
-use Rattle.board.specs.Record.{verdictOf, client, accessPoint, passwordOf, setUpRefusals, setUpRefusal, boardOf, setUpBoard, sound}
-use Rattle.board.specs.Refusals.{Earliest, first, later, NoneApplies, Silent, Responds, PacketsAnswered, Authorized, AuthorizedAnswered, MeasurementsAnswered, SetUpsAnswered}
-use Rattle.board.specs.Step.{Call, Request, request, isDiscovery, otherId, reportsOf, response, stepRefusals, stepRefusal, Outcome, outcomeOf, answerWith, outcomeBy, step}
-use Rattle.board.proofs.Soundness.{sound-parts, id-length}
-use Rattle.board.proofs.StepRefusals.{no-refusal, request-refusal-by, step-refusal-by, step-refused, step-answered, passed-request, PassedStep, passed-step}
-use Rattle.board.specs.declared.Answer.the-variants as answer
-use Rattle.board.specs.declared.Verdict.the-variants as verdict
+use Rattle.model.specs.Authentication.{passes}
+use Rattle.model.specs.Measurement.{measureRefusals, measureRefusal, measuredBy, measuredBoard}
+use Rattle.model.specs.Record.{verdictOf, client, accessPoint, passwordOf, setUpRefusals, setUpRefusal, boardOf, setUpBoard, sound}
+use Rattle.model.specs.Refusals.{Earliest, first, later, NoneApplies, Silent, Responds, PacketsAnswered, Authorized, AuthorizedAnswered, MeasurementsAnswered, SetUpsAnswered}
+use Rattle.model.specs.Step.{Call, Request, request, isDiscovery, otherId, reportsOf, response, stepRefusals, stepRefusal, Outcome, outcomeOf, answerWith, outcomeBy, step}
+use Rattle.model.proofs.Soundness.{sound-parts, id-length}
+use Rattle.model.proofs.StepRefusals.{no-refusal, request-refusal-by, step-refusal-by, step-refused, step-answered, passed-request, PassedStep, passed-step}
+use Rattle.model.specs.declared.Answer.the-variants as answer
+use Rattle.model.specs.declared.Verdict.the-variants as verdict
 
 -- what the first refusal of a list says of its conditions, and back
 module _ {Asked : Type 0} where

@@ -14,11 +14,11 @@ use Rattle.store.specs.Layout.{sizeOf, roomOf, valueOf}
 use Rattle.store.specs.Operations.{measurable, affected}
 use Rattle.store.specs.Rows.{rowOf, known}
 use Rattle.store.specs.declared.Store.{Store}
-use Rattle.board.specs.Commands.{reported, run, runReports}
-use Rattle.board.specs.Measurement.{MeasureCall, measureRefusal, measuredBoard}
-use Rattle.board.specs.Record.{SetUp, setUpBoard, sound}
-use Rattle.board.specs.Step.{Call, request, isDiscovery, commandsOf, reportsOf, stepRefusal, step}
-use Rattle.board.specs.declared.Board.{Board}
+use Rattle.model.specs.Commands.{reported, run, runReports}
+use Rattle.model.specs.Measurement.{MeasureCall, measureRefusal, measuredBoard}
+use Rattle.model.specs.Record.{SetUp, setUpBoard, sound}
+use Rattle.model.specs.Step.{Call, request, isDiscovery, commandsOf, reportsOf, stepRefusal, step}
+use Rattle.model.specs.declared.Board.{Board}
 
 -- what a command does to its parameter, if anything
 abbrev pub operationOf : Command → Option Operation

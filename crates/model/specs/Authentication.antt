@@ -7,7 +7,7 @@ use Rattle.octets.specs.Octets.{same}
 use Rattle.framing.specs.Identity.{defaultId}
 use Rattle.framing.specs.Packet.{packetRefusal, frameOf}
 use Rattle.block.specs.Reading.{isSome}
-use Rattle.board.specs.Record.{client}
+use Rattle.model.specs.Record.{client}
 
 -- the packet passes 2 to 6
 abbrev pub passes : List ℕ → Bool

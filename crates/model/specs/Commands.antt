@@ -9,7 +9,7 @@ use Rattle.store.specs.declared.Answer.the-variants.{Value, Unknown, Silence}
 use Rattle.store.specs.declared.Store.{Store}
 use Rattle.store.specs.Layout.{valueOf}
 use Rattle.store.specs.Operations.{written, raised, lowered, answer}
-use Rattle.board.specs.Record.{micra}
+use Rattle.model.specs.Record.{micra}
 
 -- 02 and 03 write, 04 raises, 05 lowers
 unfoldable pub afterCommand : Store → Command → Store

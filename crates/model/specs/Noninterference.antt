@@ -5,14 +5,14 @@ use mathlib.Core.Bool.{true, false}
 use mathlib.Core.List.{List, [], _∷_}
 use mathlib.Core.Path.{_≡_}
 use lib.ListN.{length}
-use Rattle.board.specs.Authentication.{bears, discovers}
-use Rattle.board.specs.Discovery.{Reply, discoveryReply}
-use Rattle.board.specs.Measurement.{measureCall, measureRefusal, measuredBoard}
-use Rattle.board.specs.PublicReply.{replyTo}
-use Rattle.board.specs.Record.{verdictOf, passwordOf, SetUp, setUpBoard}
-use Rattle.board.specs.Step.{call, step}
-use Rattle.board.specs.declared.Board.{Board}
-use Rattle.board.specs.declared.Verdict.{Verdict}
+use Rattle.model.specs.Authentication.{bears, discovers}
+use Rattle.model.specs.Discovery.{Reply, discoveryReply}
+use Rattle.model.specs.Measurement.{measureCall, measureRefusal, measuredBoard}
+use Rattle.model.specs.PublicReply.{replyTo}
+use Rattle.model.specs.Record.{verdictOf, passwordOf, SetUp, setUpBoard}
+use Rattle.model.specs.Step.{call, step}
+use Rattle.model.specs.declared.Board.{Board}
+use Rattle.model.specs.declared.Verdict.{Verdict}
 
 -- a call of one board alone: a packet with the bytes of its response buffer, or a measurement of a parameter
 pub data OwnCall : Type 0 where

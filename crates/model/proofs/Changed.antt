@@ -24,14 +24,14 @@ use Rattle.store.specs.Sound as rows
 use Rattle.store.specs.declared.Answer.the-variants.{Value, Unknown, Silence}
 use Rattle.store.specs.declared.Store.{Store}
 use Rattle.store.proofs.Laws.{size-kept, others-kept, identity-kept, read-back, sound-kept, start-sized, start-sound, start-identity}
-use Rattle.board.specs.Changes.{operationOf, mayChange, noneChanges, SameIdentity, Legal, ValuesReported, CommandRuns, PacketsChange, MeasurementsChange, SetUpsLegal}
-use Rattle.board.specs.Commands.{afterCommand, reportAs, reported, run, runReports, discoverReports}
-use Rattle.board.specs.Measurement.{MeasureCall, measureRefusals, measureRefusal, measuredBy, measuredBoard}
-use Rattle.board.specs.Record.{isId, micra, withStore, SetUp, setUpRefusals, setUpRefusal, startBoard, unset, boardOf, setUpBoard, sound}
-use Rattle.board.specs.Step.{Call, request, isDiscovery, commandsOf, stepRefusal, step}
-use Rattle.board.specs.declared.Board.{Board}
-use Rattle.board.proofs.Soundness.{SoundParts, sound-parts, parts-sound}
-use Rattle.board.proofs.StepRefusals.{answered-board, on-step}
+use Rattle.model.specs.Changes.{operationOf, mayChange, noneChanges, SameIdentity, Legal, ValuesReported, CommandRuns, PacketsChange, MeasurementsChange, SetUpsLegal}
+use Rattle.model.specs.Commands.{afterCommand, reportAs, reported, run, runReports, discoverReports}
+use Rattle.model.specs.Measurement.{MeasureCall, measureRefusals, measureRefusal, measuredBy, measuredBoard}
+use Rattle.model.specs.Record.{isId, micra, withStore, SetUp, setUpRefusals, setUpRefusal, startBoard, unset, boardOf, setUpBoard, sound}
+use Rattle.model.specs.Step.{Call, request, isDiscovery, commandsOf, stepRefusal, step}
+use Rattle.model.specs.declared.Board.{Board}
+use Rattle.model.proofs.Soundness.{SoundParts, sound-parts, parts-sound}
+use Rattle.model.proofs.StepRefusals.{answered-board, on-step}
 
 -- a command does its operation
 abbrev done : Option Operation → Store → ℕ → Store

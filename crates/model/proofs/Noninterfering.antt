@@ -5,18 +5,18 @@ use mathlib.Core.List.{List, [], _∷_}
 use mathlib.Core.Path.{_≡_, refl, sym, ap, _∙_}
 use borrow.Author.Tests.{le-ltb}
 use lib.ListN.{length, take}
-use Rattle.board.specs.Authentication.{bears, discovers}
-use Rattle.board.specs.Changes.{SameIdentity, Legal}
-use Rattle.board.specs.Discovery.{replyOf, discoveryReply}
-use Rattle.board.specs.Measurement.{measureCall}
-use Rattle.board.specs.Noninterference.{OwnCall, ofPacket, ofMeasurement, ListedCall, toBoth, toFirst, toSecond, boardAfter, returned, Unauthenticated, without, ends, returns, Discoverable, Claim, Noninterference}
-use Rattle.board.specs.PublicReply.{replyTo, bufferedReply, publicReply}
-use Rattle.board.specs.Record.{passwordOf, setUpBoard}
-use Rattle.board.specs.Step.{call, Outcome, step}
-use Rattle.board.specs.declared.Answer.the-variants.{Refused}
-use Rattle.board.specs.declared.Board.{Board}
-use Rattle.board.proofs.Changed.{packets-change, measurements-change, set-ups-legal}
-use Rattle.board.proofs.Unauthenticated.{withReply, discovery-step, unauthenticated-answered}
+use Rattle.model.specs.Authentication.{bears, discovers}
+use Rattle.model.specs.Changes.{SameIdentity, Legal}
+use Rattle.model.specs.Discovery.{replyOf, discoveryReply}
+use Rattle.model.specs.Measurement.{measureCall}
+use Rattle.model.specs.Noninterference.{OwnCall, ofPacket, ofMeasurement, ListedCall, toBoth, toFirst, toSecond, boardAfter, returned, Unauthenticated, without, ends, returns, Discoverable, Claim, Noninterference}
+use Rattle.model.specs.PublicReply.{replyTo, bufferedReply, publicReply}
+use Rattle.model.specs.Record.{passwordOf, setUpBoard}
+use Rattle.model.specs.Step.{call, Outcome, step}
+use Rattle.model.specs.declared.Answer.the-variants.{Refused}
+use Rattle.model.specs.declared.Board.{Board}
+use Rattle.model.proofs.Changed.{packets-change, measurements-change, set-ups-legal}
+use Rattle.model.proofs.Unauthenticated.{withReply, discovery-step, unauthenticated-answered}
 
 -- what no call changes: the ID, the password, the mode in force, and that the record is sound
 record Kept (board : Board) (id password : List ℕ) (mode : ℕ) : Type 0 where

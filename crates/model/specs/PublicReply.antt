@@ -9,12 +9,12 @@ use lib.ListN.{length}
 use Rattle.octets.specs.Octets.{same}
 use Rattle.framing.specs.Identity.{defaultId}
 use Rattle.framing.specs.Packet.{packetRefusal, frameOf}
-use Rattle.board.specs.Authentication.{bears, discovers}
-use Rattle.board.specs.Discovery.{Reply, replyOf, discoveryReply}
-use Rattle.board.specs.Record.{passwordOf, sound}
-use Rattle.board.specs.Step.{call, step}
-use Rattle.board.specs.declared.Answer.the-variants.{Refused}
-use Rattle.board.specs.declared.Board.{Board}
+use Rattle.model.specs.Authentication.{bears, discovers}
+use Rattle.model.specs.Discovery.{Reply, replyOf, discoveryReply}
+use Rattle.model.specs.Record.{passwordOf, sound}
+use Rattle.model.specs.Step.{call, step}
+use Rattle.model.specs.declared.Answer.the-variants.{Refused}
+use Rattle.model.specs.declared.Board.{Board}
 
 abbrev pub replyTo : Board → List ℕ → List ℕ → Reply
 replyTo board packet buffer = replyOf (step (call board packet buffer) .answer) (step (call board packet buffer) .buffer)

@@ -10,8 +10,8 @@ use Rattle.octets.proofs.Same.{same-self, same-equal}
 use Rattle.framing.specs.Identity.{defaultId, allAlphanumeric}
 use Rattle.store.specs.Layout.{valueOf}
 use Rattle.store.specs.Sound as rows
-use Rattle.board.specs.Record.{isId, isMode, micra, passwordOf, sound}
-use Rattle.board.specs.declared.Board.{Board}
+use Rattle.model.specs.Record.{isId, isMode, micra, passwordOf, sound}
+use Rattle.model.specs.declared.Board.{Board}
 
 pub record SoundParts (board : Board) : Type 0 where
   pub id : isId (board .id) ≡ true

@@ -13,10 +13,10 @@ use Rattle.store.specs.declared.Store.{Store}
 use Rattle.store.specs.Layout.{valueOf}
 use Rattle.store.specs.Sound as rows
 use Rattle.store.specs.Start.{start}
-use Rattle.board.specs.declared.Answered.{Answered}
-use Rattle.board.specs.declared.Board.{Board}
-use Rattle.board.specs.declared.Verdict.{Verdict}
-use Rattle.board.specs.declared.Verdict.the-variants.{Accepted, Refused}
+use Rattle.model.specs.declared.Answered.{Answered}
+use Rattle.model.specs.declared.Board.{Board}
+use Rattle.model.specs.declared.Verdict.{Verdict}
+use Rattle.model.specs.declared.Verdict.the-variants.{Accepted, Refused}
 
 -- the number of a refusal, none where the call is accepted
 abbrev pub verdictOf : Option ℕ → Verdict

@@ -15,12 +15,12 @@ use Rattle.block.specs.Command.{Command, Report}
 use Rattle.block.specs.Encoding.{encodeReports}
 use Rattle.block.specs.Reading.{isSome}
 use Rattle.block.specs.Request.{commands, onlyReads}
-use Rattle.board.specs.Commands.{run, runReports, discoverReports}
-use Rattle.board.specs.Record.{sound, client, passwordOf, withStore}
-use Rattle.board.specs.declared.Answer.{Answer}
-use Rattle.board.specs.declared.Answer.the-variants.{Refused, Silence, Response}
-use Rattle.board.specs.declared.Board.{Board}
-use Rattle.board.specs.declared.Stepped.{Stepped}
+use Rattle.model.specs.Commands.{run, runReports, discoverReports}
+use Rattle.model.specs.Record.{sound, client, passwordOf, withStore}
+use Rattle.model.specs.declared.Answer.{Answer}
+use Rattle.model.specs.declared.Answer.the-variants.{Refused, Silence, Response}
+use Rattle.model.specs.declared.Board.{Board}
+use Rattle.model.specs.declared.Stepped.{Stepped}
 
 -- a frame for a board
 pub record Request : Type 0 where

@@ -10,11 +10,11 @@ use Rattle.framing.specs.Refusal.{Refusal, refusal, firstRefusal}
 use Rattle.framing.proofs.Refusals.{not-refused}
 use Rattle.block.specs.Command.{Report}
 use Rattle.block.specs.Reading.{isSome}
-use Rattle.board.specs.Commands.{run}
-use Rattle.board.specs.Record.{withStore}
-use Rattle.board.specs.Step.{Request, Call, request, unsound, smallBuffer, otherId, wrongPassword, wrongFunction, malformed, discoveryWrites, longResponse, requestRefusals, onPacket, onRequest, stepRefusals, stepRefusal, isDiscovery, commandsOf, reportsOf, Outcome, outcomeOf, nextBoard, answerWith, outcomeBy, step}
-use Rattle.board.specs.declared.Answer.the-variants.{Refused}
-use Rattle.board.specs.declared.Board.{Board}
+use Rattle.model.specs.Commands.{run}
+use Rattle.model.specs.Record.{withStore}
+use Rattle.model.specs.Step.{Request, Call, request, unsound, smallBuffer, otherId, wrongPassword, wrongFunction, malformed, discoveryWrites, longResponse, requestRefusals, onPacket, onRequest, stepRefusals, stepRefusal, isDiscovery, commandsOf, reportsOf, Outcome, outcomeOf, nextBoard, answerWith, outcomeBy, step}
+use Rattle.model.specs.declared.Answer.the-variants.{Refused}
+use Rattle.model.specs.declared.Board.{Board}
 
 -- no refusal: the option is empty
 pub no-refusal : (refusal : Option ℕ) → not (isSome refusal) ≡ true → refusal ≡ none

@@ -4,15 +4,15 @@ use mathlib.Core.Bool.{true}
 use mathlib.Core.List.{List, [], _∷_}
 use mathlib.Core.Path.{_≡_}
 use lib.ListN.{length}
-use Rattle.board.specs.Authentication.{discovers}
-use Rattle.board.specs.Discovery.{replyOf, discoveryReply}
-use Rattle.board.specs.Measurement.{measureCall, MeasuresBoard}
-use Rattle.board.specs.Noninterference.{OwnCall, ofPacket, ofMeasurement, ListedCall, toBoth, toFirst, toSecond, Returned, replied, judged, Unauthenticated, without}
-use Rattle.board.specs.Record.{passwordOf, SetUp, SetsUp}
-use Rattle.board.specs.Step.{call, Steps}
-use Rattle.board.specs.declared.Answered.{Answered}
-use Rattle.board.specs.declared.Board.{Board}
-use Rattle.board.specs.declared.Stepped.{Stepped}
+use Rattle.model.specs.Authentication.{discovers}
+use Rattle.model.specs.Discovery.{replyOf, discoveryReply}
+use Rattle.model.specs.Measurement.{measureCall, MeasuresBoard}
+use Rattle.model.specs.Noninterference.{OwnCall, ofPacket, ofMeasurement, ListedCall, toBoth, toFirst, toSecond, Returned, replied, judged, Unauthenticated, without}
+use Rattle.model.specs.Record.{passwordOf, SetUp, SetsUp}
+use Rattle.model.specs.Step.{call, Steps}
+use Rattle.model.specs.declared.Answered.{Answered}
+use Rattle.model.specs.declared.Board.{Board}
+use Rattle.model.specs.declared.Stepped.{Stepped}
 
 -- a call of one board alone, from the record that it took to the one that it returned
 pub data OwnMade (board : Board) : Board → Type 0 where

@@ -17,15 +17,15 @@ use Rattle.block.specs.Command.{Report}
 use Rattle.block.specs.Encoding.{encodeReports}
 use Rattle.block.specs.Reading.{isSome}
 use Rattle.block.specs.Request.{onlyReads}
-use Rattle.board.specs.Authentication.{passes, bears, discovers}
-use Rattle.board.specs.Commands.{run, runReports, discoverReports}
-use Rattle.board.specs.Discovery.{Reply, replyOf, Discovery, foundReports, foundResponse, discovery, discoveryRefusals, replyWith, replyBy, discoveryReply}
-use Rattle.board.specs.PublicReply.{bufferedReply, publicRefusal, publicReply, UnauthenticatedAnswered}
-use Rattle.board.specs.Record.{client, passwordOf, withStore, sound}
-use Rattle.board.specs.Step.{Request, requestOf, call, isDiscovery, commandsOf, reportsOf, response, otherId, requestRefusals, stepRefusal, Outcome, outcomeOf, nextBoard, answerWith, outcomeBy, step}
-use Rattle.board.specs.declared.Answer.the-variants.{Refused, Silence, Response}
-use Rattle.board.specs.declared.Board.{Board}
-use Rattle.board.proofs.StepRefusals.{no-refusal, request-refusal-by, step-refusal-by, step-refused}
+use Rattle.model.specs.Authentication.{passes, bears, discovers}
+use Rattle.model.specs.Commands.{run, runReports, discoverReports}
+use Rattle.model.specs.Discovery.{Reply, replyOf, Discovery, foundReports, foundResponse, discovery, discoveryRefusals, replyWith, replyBy, discoveryReply}
+use Rattle.model.specs.PublicReply.{bufferedReply, publicRefusal, publicReply, UnauthenticatedAnswered}
+use Rattle.model.specs.Record.{client, passwordOf, withStore, sound}
+use Rattle.model.specs.Step.{Request, requestOf, call, isDiscovery, commandsOf, reportsOf, response, otherId, requestRefusals, stepRefusal, Outcome, outcomeOf, nextBoard, answerWith, outcomeBy, step}
+use Rattle.model.specs.declared.Answer.the-variants.{Refused, Silence, Response}
+use Rattle.model.specs.declared.Board.{Board}
+use Rattle.model.proofs.StepRefusals.{no-refusal, request-refusal-by, step-refusal-by, step-refused}
 
 -- a reply, and the record as it was
 abbrev pub withReply : Board → Reply → Outcome

@@ -14,9 +14,9 @@ use Rattle.block.specs.Command.{Command, Report}
 use Rattle.block.specs.Encoding.{encodeReports}
 use Rattle.block.specs.Reading.{isSome}
 use Rattle.block.specs.Request.{commands, onlyReads}
-use Rattle.board.specs.Commands.{discoverReports}
-use Rattle.board.specs.declared.Answer.{Answer}
-use Rattle.board.specs.declared.Answer.the-variants.{Refused, Silence, Response}
+use Rattle.model.specs.Commands.{discoverReports}
+use Rattle.model.specs.declared.Answer.{Answer}
+use Rattle.model.specs.declared.Answer.the-variants.{Refused, Silence, Response}
 
 -- what a packet returns beside the record, and the bytes that it leaves in the response buffer
 pub record Reply : Type 0 where

@@ -1,0 +1,11 @@
+pub mod Record
+pub mod Commands
+pub mod Step
+pub mod Measurement
+pub mod Authentication
+pub mod Refusals
+pub mod Changes
+pub mod Discovery
+pub mod PublicReply
+pub mod Noninterference
+pub mod Trace

@@ -1,0 +1,39 @@
+// A board's record, and what set-up, a packet and a measurement are answered with. What each of them does is defined in `specs/`, with
+// demands 1, 2 and 3 proved of the definitions; `board` has the code.
+use store::Store;
+
+// A board's record. The password is the first `size` bytes of `password`; `mode` is the mode in force.
+#[repr(C)]
+pub struct Board {
+    pub id: [u8; 16],
+    pub password: [u8; 8],
+    pub size: u8,
+    pub mode: u8,
+    pub store: Store,
+}
+
+// What set-up and a measurement are answered with.
+pub enum Verdict {
+    Accepted,
+    // The number of the refusal.
+    Refused(u8),
+}
+
+pub struct Answered {
+    pub board: Board,
+    pub verdict: Verdict,
+}
+
+// What a packet is answered with.
+pub enum Answer {
+    // The number of the refusal.
+    Refused(u8),
+    Silence,
+    // The length of the response.
+    Response(usize),
+}
+
+pub struct Stepped {
+    pub board: Board,
+    pub answer: Answer,
+}
