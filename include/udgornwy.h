@@ -2,12 +2,12 @@
  * Udgornwy: the controller board of a Micra 100 WiFi unit, and the tool that writes its requests and reads its responses.
  *
  * Link the static libraries that `rt staticlib` writes to target/staticlib: libboard.a for the board's three calls, libtool.a for the
- * tool's three. They allocate nothing, keep nothing between calls and use no function but memcpy and its like.
+ * tool's three. They allocate nothing, keep nothing between calls and call nothing but memcpy, memmove and memset.
  *
  * For every call:
- *  - A slice is a pointer and a count. The pointer must not be null, also where the count is 0, and must not be used by another call at
- *    the same time. Buffers that are written to must not overlap any other argument.
- *  - A refusal is a number above 0. Where several apply, the lowest is given; for the tool, the first in the order listed.
+ *  - A slice is a pointer and a count. The pointer must not be null, also where the count is 0. What a call writes to, record or buffer,
+ *    must not overlap another argument, nor be used by another thread meanwhile.
+ *  - A refusal is a number above 0. Where several apply, the first in the order listed is given.
  *  - A refused call leaves the record and every buffer as they were.
  *  - Values of several bytes have the low byte first.
  */
@@ -112,7 +112,7 @@ udgornwy_kept udgornwy_measure(udgornwy_board board, uint16_t number, const uint
  * Writes the request packet of a list of commands. Command i has function functions[i] (1 read, 2 write, 3 write and report, 4 raise,
  * 5 lower), parameter numbers[i] and a value of lengths[i] bytes; the values stand one behind the other. The three counts are the same.
  * buffer needs 256 bytes. The ID may be DEFAULT_DEVICEID.
- * Refusals, in this order:
+ * Refusals:
  *    1  buffer under 256 bytes
  *   40  the ID has not 16 bytes
  *   21  the password has more than 8 bytes, or one that is not of 0-9, a-z, A-Z
@@ -127,7 +127,7 @@ udgornwy_reply udgornwy_write(uint8_t *buffer, size_t buffer_length, const uint8
 
 /*
  * Judges a packet as the response to a request with this ID and password. Having asked by DEFAULT_DEVICEID, it takes every ID.
- * Answers 0, or in this order
+ * Answers 0, or
  *   40  the ID expected has not 16 bytes
  *   21  the password expected has more than 8 bytes, or one that is not of 0-9, a-z, A-Z
  *    2 to 6  as for udgornwy_packet
