@@ -42,6 +42,7 @@ const LISTEN: &str = "127.0.0.1:4000";
 const LIMIT: Duration = Duration::from_secs(1);
 const RETRIES: u32 = 5;
 
+const SHORTEST_LIMIT: f64 = 0.001;
 const LONGEST_LIMIT: f64 = 3600.0;
 const MOST_RETRIES: u32 = 1000;
 
@@ -195,11 +196,11 @@ fn parse_limit(text: Option<&str>) -> Result<Duration, String> {
         return Ok(LIMIT);
     };
     match text.parse::<f64>() {
-        Ok(seconds) if seconds >= 0.001 && seconds <= LONGEST_LIMIT => {
+        Ok(seconds) if (SHORTEST_LIMIT..=LONGEST_LIMIT).contains(&seconds) => {
             Ok(Duration::from_secs_f64(seconds))
         }
         _ => Err(format!(
-            "-t takes 0.001 to {LONGEST_LIMIT} seconds, not `{text}`"
+            "-t takes {SHORTEST_LIMIT} to {LONGEST_LIMIT} seconds, not `{text}`"
         )),
     }
 }

@@ -124,15 +124,17 @@ impl Exchange<'_> {
     }
 
     fn no_response(&self, mail: &Mail) -> String {
-        let requests = self.retries + 1;
+        let address = self.target.address;
         let seconds = self.limit.as_secs_f64();
-        let text = format!(
-            "no response from {} within {seconds} s, sent {requests} times",
-            self.target.address
-        );
+        let requests = self.retries + 1;
+        let text =
+            format!("no response from {address} within {seconds} s, requests sent: {requests}");
         match mail.ignored {
             0 => format!("{text} (a wrong ID or password gets none either)"),
-            count => format!("{text}; ignored {count}, the last one {}", mail.reason),
+            count => format!(
+                "{text}, packets ignored: {count}, the last one {}",
+                mail.reason
+            ),
         }
     }
 }

@@ -2,7 +2,7 @@
 
 /// Two digits for each byte, nothing between them.
 pub fn parse(text: &str) -> Option<Vec<u8>> {
-    if text.is_empty() || text.len() % 2 != 0 {
+    if text.is_empty() || !text.len().is_multiple_of(2) {
         return None;
     }
     text.as_bytes().chunks(2).map(parse_byte).collect()

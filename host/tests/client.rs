@@ -135,7 +135,7 @@ fn nobody_there_times_out_after_all_retries() {
     failed(
         &output,
         1,
-        &format!("no response from {host} within 0.2 s, sent 3 times"),
+        &format!("no response from {host} within 0.2 s, requests sent: 3"),
     );
     assert!(begin.elapsed().as_millis() >= 600);
     let asked = request(ID.as_bytes(), PASSWORD, 1, &[0x01]);
@@ -186,7 +186,7 @@ fn other_packets_are_ignored_and_the_response_is_found() {
         failed(
             &output,
             1,
-            &format!("ignored 1, the last one refused {number} ("),
+            &format!("packets ignored: 1, the last one refused {number} ("),
         );
     }
     let packets = others.into_iter().map(|(other, _)| other).chain([good]);
@@ -213,7 +213,7 @@ fn a_response_from_another_sender_is_ignored() {
     failed(
         &output,
         1,
-        &format!("ignored 1, the last one from {sender}"),
+        &format!("packets ignored: 1, the last one from {sender}"),
     );
 }
 
