@@ -97,20 +97,15 @@ impl Exchange<'_> {
 
     /// Keeps a packet that is a response to this request; a board that answers twice counts once.
     fn take(&self, mail: &mut Mail, sender: SocketAddr, bytes: &[u8]) {
-        match self.judge(sender, bytes) {
-            Err(reason) => {
-                mail.ignored += 1;
-                mail.reason = reason;
-            }
-            Ok(())
-                if mail
-                    .responses
-                    .iter()
-                    .any(|response| response.sender == sender) => {}
-            Ok(()) => mail.responses.push(Response {
-                sender,
-                bytes: bytes.to_vec(),
-            }),
+        if let Err(reason) = self.judge(sender, bytes) {
+            mail.ignored += 1;
+            mail.reason = reason;
+            return;
+        }
+        let mut senders = mail.responses.iter().map(|response| response.sender);
+        if !senders.any(|heard| heard == sender) {
+            let bytes = bytes.to_vec();
+            mail.responses.push(Response { sender, bytes });
         }
     }
 

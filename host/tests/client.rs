@@ -33,15 +33,15 @@ fn scratch(name: &str) -> PathBuf {
 fn the_guides_read_is_sent_and_its_response_kept_and_listed() {
     let board = Board::start(ZERO_ID, "client", &[]);
     let (host, raw) = (board.host(), scratch("e2"));
-    let identity = ["--host", &host, "--id", ZERO_ID, "--password", PASSWORD];
-    listing(&run(&[&["set"], &identity[..], &["0x0002=3"]].concat()));
+    let identity = (ZERO_ID, PASSWORD);
+    listing(&ask(&host, identity, "set", &["-t", "20", "0x0002=3"]));
     let kept = raw.to_str().expect("a path of text");
-    let output = run(&[
-        &["get"],
-        &identity[..],
+    let output = ask(
+        &host,
+        identity,
+        "get",
         &["-d", "--raw", kept, "0x0001", "0x0002"],
-    ]
-    .concat());
+    );
     assert_eq!(listing(&output), E2_LISTING);
     assert_eq!(std::fs::read(&raw).expect("the kept response"), E2);
     let dumped = format!(
@@ -89,6 +89,7 @@ fn every_row_of_the_table_exists_with_its_size() {
     for some in ROWS.chunks(8) {
         let names: Vec<&str> = some.iter().map(|row| row.name).collect();
         let listing = board.listed("get", &names);
+        assert_eq!(listing.lines().count(), 1 + names.len());
         for (row, line) in some.iter().zip(listing.lines().skip(1)) {
             let digits = line
                 .strip_prefix(&format!("0x{:04X},", row.number))
@@ -115,9 +116,12 @@ fn a_search_lists_the_id_and_the_unit_type() {
 #[test]
 fn a_wrong_password_times_out() {
     let board = Board::client();
-    let host = board.host();
-    let identity = ["--host", &host, "--id", ID, "--password", "2222"];
-    let output = run(&[&["set"], &identity[..], &["-t", "0.3", "unit-on-off=1"]].concat());
+    let output = ask(
+        &board.host(),
+        (ID, "2222"),
+        "set",
+        &["-t", "0.3", "unit-on-off=1"],
+    );
     failed(&output, 1, "no response from");
     assert_eq!(
         board.listed("get", &["unit-on-off"]),
@@ -130,8 +134,12 @@ fn nobody_there_times_out_after_all_retries() {
     let silent = open_socket();
     let host = silent.local_addr().expect("an address").to_string();
     let begin = Instant::now();
-    let identity = ["--host", &host, "--id", ID, "--password", PASSWORD];
-    let output = run(&[&["get"], &identity[..], &["-t", "0.2", "-r", "2", "0x0001"]].concat());
+    let output = ask(
+        &host,
+        (ID, PASSWORD),
+        "get",
+        &["-t", "0.2", "-r", "2", "0x0001"],
+    );
     failed(
         &output,
         1,
@@ -151,27 +159,26 @@ fn nobody_there_times_out_after_all_retries() {
 }
 
 /// Runs `get 0x0001` against a socket that answers the first request with these packets.
-fn answered_with(packets: Vec<Vec<u8>>) -> Output {
+fn answered_with(packets: &[Vec<u8>], limit: &str) -> Output {
     let socket = open_socket();
     let host = socket.local_addr().expect("an address").to_string();
     thread::scope(|scope| {
         scope.spawn(|| {
             let (_, client) = socket.recv_from(&mut [0; 256]).expect("a request");
-            for packet in &packets {
+            for packet in packets {
                 socket.send_to(packet, client).expect("a packet sent");
             }
         });
-        let identity = ["--host", &host, "--id", ID, "--password", PASSWORD];
-        run(&[&["get"], &identity[..], &["-t", "0.5", "-r", "0", "0x0001"]].concat())
+        let more = ["-t", limit, "-r", "0", "0x0001"];
+        ask(&host, (ID, PASSWORD), "get", &more)
     })
 }
 
-#[test]
-fn other_packets_are_ignored_and_the_response_is_found() {
-    let good = response(ID.as_bytes(), PASSWORD, &[0x01, 1]);
-    let mut damaged = good.clone();
+/// Packets that are no response to `get 0x0001`, with the reader's refusal of each.
+fn other_packets() -> [(Vec<u8>, u8); 8] {
+    let mut damaged = response(ID.as_bytes(), PASSWORD, &[0x01, 1]);
     damaged[26] = 0;
-    let others = [
+    [
         (vec![], 2),
         (vec![0; 60000], 2),
         (vec![0; 30], 3),
@@ -180,20 +187,28 @@ fn other_packets_are_ignored_and_the_response_is_found() {
         (response(ID.as_bytes(), "2222", &[0x01, 1]), 8),
         (request(ID.as_bytes(), PASSWORD, 1, &[0x01]), 9),
         (response(ID.as_bytes(), PASSWORD, &[0x01]), 10),
-    ];
-    for (other, number) in &others {
-        let output = answered_with(vec![other.clone()]);
-        failed(
-            &output,
-            1,
-            &format!("packets ignored: 1, the last one refused {number} ("),
-        );
-    }
-    let packets = others.into_iter().map(|(other, _)| other).chain([good]);
-    assert_eq!(
-        listing(&answered_with(packets.collect())),
-        "number,value\n0x0001,01\n"
-    );
+    ]
+}
+
+#[test]
+fn other_packets_are_no_response() {
+    thread::scope(|scope| {
+        for (packet, number) in other_packets() {
+            scope.spawn(move || {
+                let reason = format!("packets ignored: 1, the last one refused {number} (");
+                failed(&answered_with(&[packet], "1"), 1, &reason);
+            });
+        }
+    });
+}
+
+#[test]
+fn the_response_is_found_among_other_packets() {
+    let others = other_packets().into_iter().map(|(packet, _)| packet);
+    let good = response(ID.as_bytes(), PASSWORD, &[0x01, 1]);
+    let packets: Vec<Vec<u8>> = others.chain([good]).collect();
+    let listed = listing(&answered_with(&packets, "20"));
+    assert_eq!(listed, "number,value\n0x0001,01\n");
 }
 
 #[test]
@@ -206,8 +221,12 @@ fn a_response_from_another_sender_is_ignored() {
             let good = response(ID.as_bytes(), PASSWORD, &[0x01, 1]);
             other.send_to(&good, client).expect("a packet sent");
         });
-        let identity = ["--host", &host, "--id", ID, "--password", PASSWORD];
-        run(&[&["get"], &identity[..], &["-t", "0.5", "-r", "0", "0x0001"]].concat())
+        ask(
+            &host,
+            (ID, PASSWORD),
+            "get",
+            &["-t", "0.5", "-r", "0", "0x0001"],
+        )
     });
     let sender = other.local_addr().expect("an address");
     failed(
@@ -265,10 +284,8 @@ fn requests_that_cannot_be_written_are_refused() {
         1,
         "the request is refused 43 (",
     );
-    let host = board.host();
-    let identity = ["--host", &host, "--id", ID, "--password", "a*"];
     failed(
-        &run(&[&["get"], &identity[..], &["0x0001"]].concat()),
+        &ask(&board.host(), (ID, "a*"), "get", &["0x0001"]),
         1,
         "the request is refused 21 (",
     );

@@ -61,11 +61,10 @@ impl Board {
         self.lines.recv_timeout(PATIENCE).expect("a line")
     }
 
-    /// Runs a command of the client on this board, with its ID and password.
+    /// Runs a command of the client on this board, with its ID and password, and time enough.
     pub fn ask(&self, command: &str, more: &[&str]) -> Output {
-        let host = self.host();
-        let identity = [command, "--host", &host, "--id", ID, "--password", PASSWORD];
-        run(&[&identity[..], more].concat())
+        let more = [&["-t", "20"], more].concat();
+        ask(&self.host(), (ID, PASSWORD), command, &more)
     }
 
     /// The listing that a command of the client writes.
@@ -122,6 +121,13 @@ pub fn run(arguments: &[&str]) -> Output {
         .expect("the program runs");
     wait(&mut process);
     process.wait_with_output().expect("the program's output")
+}
+
+/// Runs a command of the client with this ID and password.
+pub fn ask(host: &str, identity: (&str, &str), command: &str, more: &[&str]) -> Output {
+    let (id, password) = identity;
+    let asked = [command, "--host", host, "--id", id, "--password", password];
+    run(&[&asked[..], more].concat())
 }
 
 /// The standard output of a program that ended well.
