@@ -16,7 +16,7 @@ pub struct Reply {
     pub length: usize,
 }
 
-pub struct Replied {
+struct Replied {
     pub board: Board,
     pub reply: Reply,
 }
