@@ -1,0 +1,42 @@
+//! The numbers that a call is turned down with.
+
+use std::fmt;
+
+#[derive(Clone, Copy, Debug, PartialEq, Eq)]
+pub struct Refusal(pub u16);
+
+impl Refusal {
+    fn meaning(self) -> &'static str {
+        match self.0 {
+            1 => "buffer too short",
+            2 => "length under 24 or over 256 bytes",
+            3 => "does not begin with FD FD",
+            4 => "checksum differs",
+            5 => "TYPE or ID size differs",
+            6 => "password size over 8, or the packet ends inside its head",
+            7 => "ID differs",
+            8 => "password differs",
+            9 => "wrong FUNC",
+            10 => "data block malformed",
+            11 => "a search that does not only read",
+            12 => "response would exceed 256 bytes",
+            20 => "ID has not 16 bytes, or is DEFAULT_DEVICEID",
+            21 => "password over 8 characters, or not of 0-9, a-z, A-Z",
+            22 => "mode is neither client nor access point",
+            30 => "not a row that can be measured",
+            31 => "not the row's length",
+            40 => "ID has not 16 bytes",
+            41 => "not a list of commands",
+            42 => "a parameter's low byte above FB, or a value of no or over 255 bytes",
+            43 => "request would exceed 256 bytes",
+            70 => "the record is not one that a board can have",
+            _ => "unknown number",
+        }
+    }
+}
+
+impl fmt::Display for Refusal {
+    fn fmt(&self, formatter: &mut fmt::Formatter<'_>) -> fmt::Result {
+        write!(formatter, "refused {} ({})", self.0, self.meaning())
+    }
+}

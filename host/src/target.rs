@@ -1,0 +1,89 @@
+//! Where a request goes.
+
+use std::net::{IpAddr, Ipv4Addr, SocketAddr, ToSocketAddrs};
+
+/// The host that stands for every board on the network.
+pub const BROADCAST: &str = "broadcast";
+
+/// The board's port.
+const PORT: u16 = 4000;
+
+#[derive(Clone, Copy, Debug, PartialEq, Eq)]
+pub struct Target {
+    pub address: SocketAddr,
+    /// Several boards may answer, each from its own address.
+    pub every: bool,
+}
+
+/// `HOST` or `HOST:PORT`; an IPv6 address with a port stands in brackets.
+pub fn resolve(text: &str) -> Result<Target, String> {
+    let (host, port) = split(text)?;
+    if host == BROADCAST {
+        return Ok(Target {
+            address: SocketAddr::new(IpAddr::V4(Ipv4Addr::BROADCAST), port),
+            every: true,
+        });
+    }
+    let found = (host, port).to_socket_addrs();
+    let addresses: Vec<SocketAddr> = found
+        .map_err(|error| format!("cannot find host `{host}`: {error}"))?
+        .collect();
+    // A unit has an IPv4 address, so a name that has both is taken by that one.
+    let address = addresses
+        .iter()
+        .find(|address| address.is_ipv4())
+        .or(addresses.first());
+    match address {
+        Some(address) => Ok(Target {
+            address: *address,
+            every: false,
+        }),
+        None => Err(format!("host `{host}` has no address")),
+    }
+}
+
+fn split(text: &str) -> Result<(&str, u16), String> {
+    if text.parse::<IpAddr>().is_ok() {
+        return Ok((text, PORT));
+    }
+    let Some((host, port)) = text.rsplit_once(':') else {
+        return Ok((text, PORT));
+    };
+    let host = host
+        .strip_prefix('[')
+        .and_then(|host| host.strip_suffix(']'))
+        .unwrap_or(host);
+    match port.parse() {
+        Ok(port @ 1..) => Ok((host, port)),
+        _ => Err(format!("`{port}` is no port")),
+    }
+}
+
+#[cfg(test)]
+mod tests {
+    use super::*;
+
+    #[test]
+    fn hosts_have_a_port_or_the_boards() {
+        for (text, address, every) in [
+            ("127.0.0.1", "127.0.0.1:4000", false),
+            ("127.0.0.1:5000", "127.0.0.1:5000", false),
+            ("::1", "[::1]:4000", false),
+            ("[::1]:5000", "[::1]:5000", false),
+            ("broadcast", "255.255.255.255:4000", true),
+            ("broadcast:5000", "255.255.255.255:5000", true),
+        ] {
+            let address = address.parse().expect("an address");
+            assert_eq!(resolve(text), Ok(Target { address, every }), "{text}");
+        }
+        for bad in [
+            "127.0.0.1:",
+            "127.0.0.1:0",
+            "127.0.0.1:65536",
+            "127.0.0.1:x",
+            "",
+        ] {
+            assert!(resolve(bad).is_err(), "{bad}");
+        }
+    }
+}

@@ -1,0 +1,327 @@
+//! The command line client, against a board and against sockets that answer wrongly or not at all.
+
+mod common;
+
+use common::*;
+use std::net::{SocketAddr, UdpSocket};
+use std::path::PathBuf;
+use std::process::Output;
+use std::thread;
+use std::time::Instant;
+use udgornwy::exchange::Exchange;
+use udgornwy::ffi::DEFAULT_ID;
+use udgornwy::rows::{Size, ROWS};
+use udgornwy::target::Target;
+
+/// A failed command has one line on standard error and nothing on standard output.
+fn failed(output: &Output, status: i32, reason: &str) {
+    let errors = errors(output);
+    assert_eq!(output.status.code(), Some(status), "{errors}");
+    assert_eq!(errors.lines().count(), 1, "{errors}");
+    assert!(
+        errors.starts_with("udgornwy: ") && errors.contains(reason),
+        "{errors}"
+    );
+    assert!(output.stdout.is_empty());
+}
+
+fn scratch(name: &str) -> PathBuf {
+    PathBuf::from(env!("CARGO_TARGET_TMPDIR")).join(name)
+}
+
+#[test]
+fn the_guides_read_is_sent_and_its_response_kept_and_listed() {
+    let board = Board::start(ZERO_ID, "client", &[]);
+    let (host, raw) = (board.host(), scratch("e2"));
+    let identity = (ZERO_ID, PASSWORD);
+    listing(&ask(&host, identity, "set", &["-t", "20", "0x0002=3"]));
+    let kept = raw.to_str().expect("a path of text");
+    let output = ask(
+        &host,
+        identity,
+        "get",
+        &["-d", "--raw", kept, "0x0001", "0x0002"],
+    );
+    assert_eq!(listing(&output), E2_LISTING);
+    assert_eq!(std::fs::read(&raw).expect("the kept response"), E2);
+    let dumped = format!(
+        "sent 30 bytes to {host}\n{}received 32 bytes from {host}\n{}",
+        udgornwy::dump::dump(&E1),
+        udgornwy::dump::dump(&E2)
+    );
+    assert_eq!(errors(&output), dumped);
+}
+
+#[test]
+fn values_are_set_raised_and_lowered() {
+    let board = Board::client();
+    for (command, words, lines) in [
+        (
+            "set",
+            &["unit-on-off=1", "0x0063=70"][..],
+            "0x0001,01\n0x0063,4600\n",
+        ),
+        ("raise", &["filter-replacement-timer"], "0x0063,4B00\n"),
+        ("lower", &["0063", "0x0002"], "0x0063,4600\n0x0002,01\n"),
+        ("set", &["0x0063=0x6D01"], "0x0063,6D01\n"),
+        (
+            "set",
+            &["0x0063=72", "unit-on-off=2"],
+            "0x0063,6D01\n0x0001,00\n",
+        ),
+        ("set", &["wifi-name=text:Home 2"], "0x0095,486F6D652032\n"),
+        (
+            "get",
+            &["wifi-name", "0x0101", "0x0401"],
+            "0x0095,486F6D652032\n0x0101,unknown\n0x0401,00\n",
+        ),
+    ] {
+        assert_eq!(
+            board.listed(command, words),
+            format!("number,value\n{lines}")
+        );
+    }
+}
+
+#[test]
+fn every_row_of_the_table_exists_with_its_size() {
+    let board = Board::client();
+    for some in ROWS.chunks(8) {
+        let names: Vec<&str> = some.iter().map(|row| row.name).collect();
+        let listing = board.listed("get", &names);
+        assert_eq!(listing.lines().count(), 1 + names.len());
+        for (row, line) in some.iter().zip(listing.lines().skip(1)) {
+            let digits = line
+                .strip_prefix(&format!("0x{:04X},", row.number))
+                .expect("the row");
+            let length = digits.len() / 2;
+            match row.size {
+                Size::Bytes(size) => assert_eq!(length, size, "{line}"),
+                Size::Text(shortest, _) => assert_eq!(length, shortest, "{line}"),
+            }
+        }
+    }
+}
+
+#[test]
+fn a_search_lists_the_id_and_the_unit_type() {
+    let board = Board::client();
+    let listed = listing(&run(&["search", "--host", &board.host()]));
+    assert_eq!(
+        listed,
+        "number,value\n0x007C,30303244364531423334353635383135\n0x00B9,0200\n"
+    );
+}
+
+#[test]
+fn a_wrong_password_times_out() {
+    let board = Board::client();
+    let output = ask(
+        &board.host(),
+        (ID, "2222"),
+        "set",
+        &["-t", "0.3", "unit-on-off=1"],
+    );
+    failed(&output, 1, "no response from");
+    assert_eq!(
+        board.listed("get", &["unit-on-off"]),
+        "number,value\n0x0001,00\n"
+    );
+}
+
+#[test]
+fn nobody_there_times_out_after_all_retries() {
+    let silent = open_socket();
+    let host = silent.local_addr().expect("an address").to_string();
+    let begin = Instant::now();
+    let output = ask(
+        &host,
+        (ID, PASSWORD),
+        "get",
+        &["-t", "0.2", "-r", "2", "0x0001"],
+    );
+    failed(
+        &output,
+        1,
+        &format!("no response from {host} within 0.2 s, requests sent: 3"),
+    );
+    assert!(begin.elapsed().as_millis() >= 600);
+    let asked = request(ID.as_bytes(), PASSWORD, 1, &[0x01]);
+    let mut packet = [0; 256];
+    for _ in 0..3 {
+        let (length, _) = silent.recv_from(&mut packet).expect("a request");
+        assert_eq!(packet[..length], asked);
+    }
+    silent
+        .set_nonblocking(true)
+        .expect("a socket that does not wait");
+    assert!(silent.recv_from(&mut packet).is_err(), "sent a fourth time");
+}
+
+/// Runs `get 0x0001` against a socket that answers the first request with these packets.
+fn answered_with(packets: &[Vec<u8>], limit: &str) -> Output {
+    let socket = open_socket();
+    let host = socket.local_addr().expect("an address").to_string();
+    thread::scope(|scope| {
+        scope.spawn(|| {
+            let (_, client) = socket.recv_from(&mut [0; 256]).expect("a request");
+            for packet in packets {
+                socket.send_to(packet, client).expect("a packet sent");
+            }
+        });
+        let more = ["-t", limit, "-r", "0", "0x0001"];
+        ask(&host, (ID, PASSWORD), "get", &more)
+    })
+}
+
+/// Packets that are no response to `get 0x0001`, with the reader's refusal of each.
+fn other_packets() -> [(Vec<u8>, u8); 8] {
+    let mut damaged = response(ID.as_bytes(), PASSWORD, &[0x01, 1]);
+    damaged[26] = 0;
+    [
+        (vec![], 2),
+        (vec![0; 60000], 2),
+        (vec![0; 30], 3),
+        (damaged, 4),
+        (response(b"002D6E1B34565816", PASSWORD, &[0x01, 1]), 7),
+        (response(ID.as_bytes(), "2222", &[0x01, 1]), 8),
+        (request(ID.as_bytes(), PASSWORD, 1, &[0x01]), 9),
+        (response(ID.as_bytes(), PASSWORD, &[0x01]), 10),
+    ]
+}
+
+#[test]
+fn other_packets_are_no_response() {
+    thread::scope(|scope| {
+        for (packet, number) in other_packets() {
+            scope.spawn(move || {
+                let reason = format!("packets ignored: 1, the last one refused {number} (");
+                failed(&answered_with(&[packet], "1"), 1, &reason);
+            });
+        }
+    });
+}
+
+#[test]
+fn the_response_is_found_among_other_packets() {
+    let others = other_packets().into_iter().map(|(packet, _)| packet);
+    let good = response(ID.as_bytes(), PASSWORD, &[0x01, 1]);
+    let packets: Vec<Vec<u8>> = others.chain([good]).collect();
+    let listed = listing(&answered_with(&packets, "20"));
+    assert_eq!(listed, "number,value\n0x0001,01\n");
+}
+
+#[test]
+fn a_response_from_another_sender_is_ignored() {
+    let (asked, other) = (open_socket(), open_socket());
+    let host = asked.local_addr().expect("an address").to_string();
+    let output = thread::scope(|scope| {
+        scope.spawn(|| {
+            let (_, client) = asked.recv_from(&mut [0; 256]).expect("a request");
+            let good = response(ID.as_bytes(), PASSWORD, &[0x01, 1]);
+            other.send_to(&good, client).expect("a packet sent");
+        });
+        ask(
+            &host,
+            (ID, PASSWORD),
+            "get",
+            &["-t", "0.5", "-r", "0", "0x0001"],
+        )
+    });
+    let sender = other.local_addr().expect("an address");
+    failed(
+        &output,
+        1,
+        &format!("packets ignored: 1, the last one from {sender}"),
+    );
+}
+
+/// Where every board may answer, each is heard once, whatever its address.
+#[test]
+fn a_search_hears_several_boards() {
+    let boards: Vec<UdpSocket> = (0..3).map(|_| open_socket()).collect();
+    let addresses: Vec<SocketAddr> = boards
+        .iter()
+        .map(|board| board.local_addr().expect("an address"))
+        .collect();
+    let search = request(&DEFAULT_ID, "", 1, &[0x7C]);
+    let answer = response(&DEFAULT_ID, "", &[0x7C, 1]);
+    let exchange = Exchange {
+        target: Target {
+            address: addresses[0],
+            every: true,
+        },
+        id: &DEFAULT_ID,
+        password: b"",
+        limit: std::time::Duration::from_millis(500),
+        retries: 0,
+    };
+    let responses = thread::scope(|scope| {
+        scope.spawn(|| {
+            let (_, client) = boards[0].recv_from(&mut [0; 256]).expect("a request");
+            for board in boards.iter().chain(&boards) {
+                board.send_to(&answer, client).expect("a packet sent");
+            }
+        });
+        exchange.run(&search, |_, _, _| {})
+    });
+    let responses = responses.expect("responses");
+    let senders: Vec<SocketAddr> = responses.iter().map(|response| response.sender).collect();
+    assert_eq!(senders, addresses);
+}
+
+#[test]
+fn requests_that_cannot_be_written_are_refused() {
+    let board = Board::client();
+    failed(
+        &board.ask("get", &["0x00FC"]),
+        1,
+        "the request is refused 42 (",
+    );
+    let long = format!("0x0095=0x{}", "41".repeat(255));
+    failed(
+        &board.ask("set", &[&long]),
+        1,
+        "the request is refused 43 (",
+    );
+    failed(
+        &ask(&board.host(), (ID, "a*"), "get", &["0x0001"]),
+        1,
+        "the request is refused 21 (",
+    );
+}
+
+#[test]
+fn bad_arguments_are_one_line() {
+    let host = ["--host", "127.0.0.1:9", "--id", ID, "--password", PASSWORD];
+    let with = |command, more: &[&'static str]| run(&[&[command], &host[..], more].concat());
+    for (output, reason) in [
+        (run(&[]), "there is no command"),
+        (run(&["fetch"]), "there is no command `fetch`"),
+        (run(&["get", "0x0001"]), "--host is missing"),
+        (with("get", &[]), "there is no row"),
+        (with("get", &["fan"]), "`fan` is neither a row's name"),
+        (with("set", &["0x0001"]), "`0x0001` has no value"),
+        (with("set", &["0x0001=300"]), "300 does not fit"),
+        (with("set", &["0x0077=1"]), "takes no decimal value"),
+        (with("get", &["-t", "0", "0x0001"]), "-t takes"),
+        (with("get", &["-r", "x", "0x0001"]), "-r takes"),
+        (
+            with("get", &["--loud", "0x0001"]),
+            "there is no option `--loud`",
+        ),
+        (with("get", &["--id", ID, "0x0001"]), "--id is given twice"),
+    ] {
+        failed(&output, 2, reason);
+    }
+}
+
+#[test]
+fn help_and_rows_are_on_standard_output() {
+    let help = listing(&run(&["--help"]));
+    assert!(help.contains("udgornwy search") && help.lines().all(|line| line.len() <= 132));
+    assert_eq!(listing(&run(&["get", "--help"])), help);
+    let rows = listing(&run(&["rows"]));
+    assert_eq!(rows.lines().count(), 73);
+    assert!(rows.contains("0x0063  2      filter-replacement-timer"));
+}

@@ -1,0 +1,216 @@
+//! A board in a process of its own on the loopback address, clients by socket and by command line. Every wait is bounded.
+
+#![allow(dead_code)]
+
+use std::io::{BufRead, BufReader, Read};
+use std::net::{SocketAddr, UdpSocket};
+use std::process::{Child, Command, ExitStatus, Output, Stdio};
+use std::sync::mpsc::{self, Receiver};
+use std::thread::{self, sleep};
+use std::time::{Duration, Instant};
+
+/// A response on the loopback address takes far less, also on a busy machine.
+pub const PATIENCE: Duration = Duration::from_secs(20);
+
+pub const ID: &str = "002D6E1B34565815";
+pub const ZERO_ID: &str = "00000000000000000000000000000000";
+pub const PASSWORD: &str = "1111";
+
+const PROGRAM: &str = env!("CARGO_BIN_EXE_udgornwy");
+
+extern "C" {
+    fn kill(process: i32, signal: i32) -> i32;
+}
+
+pub struct Board {
+    process: Child,
+    lines: Receiver<String>,
+    pub address: SocketAddr,
+}
+
+impl Board {
+    /// A verbose board on a free port.
+    pub fn start(id: &str, mode: &str, more: &[&str]) -> Board {
+        let mut process = Command::new(PROGRAM)
+            .args(["board", "--id", id, "--password", PASSWORD, "--mode", mode])
+            .args(["--listen", "127.0.0.1:0", "--verbose"])
+            .args(more)
+            .stderr(Stdio::piped())
+            .spawn()
+            .expect("the program runs");
+        let lines = read_lines(process.stderr.take().expect("a piped stream"));
+        let first = lines.recv_timeout(PATIENCE).expect("a line when listening");
+        let address = first.strip_prefix("listening on ").expect("the address");
+        Board {
+            process,
+            lines,
+            address: address.parse().expect("an address with its port"),
+        }
+    }
+
+    pub fn client() -> Board {
+        Board::start(ID, "client", &[])
+    }
+
+    pub fn host(&self) -> String {
+        self.address.to_string()
+    }
+
+    /// The next line on the board's standard error.
+    pub fn line(&self) -> String {
+        self.lines.recv_timeout(PATIENCE).expect("a line")
+    }
+
+    /// Runs a command of the client on this board, with its ID and password, and time enough.
+    pub fn ask(&self, command: &str, more: &[&str]) -> Output {
+        let more = [&["-t", "20"], more].concat();
+        ask(&self.host(), (ID, PASSWORD), command, &more)
+    }
+
+    /// The listing that a command of the client writes.
+    pub fn listed(&self, command: &str, more: &[&str]) -> String {
+        listing(&self.ask(command, more))
+    }
+
+    pub fn signal(&mut self, number: i32) -> ExitStatus {
+        let process = i32::try_from(self.process.id()).expect("a process number");
+        // SAFETY: this process was started here and has not been waited for.
+        unsafe { kill(process, number) };
+        wait(&mut self.process)
+    }
+}
+
+impl Drop for Board {
+    fn drop(&mut self) {
+        let _ = self.process.kill();
+        let _ = self.process.wait();
+    }
+}
+
+fn read_lines(stream: impl Read + Send + 'static) -> Receiver<String> {
+    let (sender, receiver) = mpsc::channel();
+    thread::spawn(move || {
+        for line in BufReader::new(stream).lines().map_while(Result::ok) {
+            if sender.send(line).is_err() {
+                break;
+            }
+        }
+    });
+    receiver
+}
+
+fn wait(process: &mut Child) -> ExitStatus {
+    let deadline = Instant::now() + PATIENCE;
+    while Instant::now() < deadline {
+        if let Some(status) = process.try_wait().expect("a process to wait for") {
+            return status;
+        }
+        sleep(Duration::from_millis(10));
+    }
+    let _ = process.kill();
+    panic!("the process did not end");
+}
+
+/// Runs the program to its end.
+pub fn run(arguments: &[&str]) -> Output {
+    let mut process = Command::new(PROGRAM)
+        .args(arguments)
+        .stdout(Stdio::piped())
+        .stderr(Stdio::piped())
+        .spawn()
+        .expect("the program runs");
+    wait(&mut process);
+    process.wait_with_output().expect("the program's output")
+}
+
+/// Runs a command of the client with this ID and password.
+pub fn ask(host: &str, identity: (&str, &str), command: &str, more: &[&str]) -> Output {
+    let (id, password) = identity;
+    let asked = [command, "--host", host, "--id", id, "--password", password];
+    run(&[&asked[..], more].concat())
+}
+
+/// The standard output of a program that ended well.
+pub fn listing(output: &Output) -> String {
+    assert!(output.status.success(), "{}", errors(output));
+    String::from_utf8(output.stdout.clone()).expect("text")
+}
+
+pub fn errors(output: &Output) -> String {
+    String::from_utf8(output.stderr.clone()).expect("text")
+}
+
+/// A socket on the loopback address that does not wait forever.
+pub fn open_socket() -> UdpSocket {
+    let socket = UdpSocket::bind("127.0.0.1:0").expect("a socket");
+    let limited = socket.set_read_timeout(Some(PATIENCE));
+    limited.expect("a time limit");
+    socket
+}
+
+/// A board's client by socket.
+pub struct Client {
+    pub socket: UdpSocket,
+    board: SocketAddr,
+}
+
+impl Client {
+    pub fn of(board: SocketAddr) -> Client {
+        let socket = open_socket();
+        Client { socket, board }
+    }
+
+    pub fn send(&self, packet: &[u8]) {
+        let sent = self.socket.send_to(packet, self.board);
+        assert_eq!(sent.expect("a packet sent"), packet.len());
+    }
+
+    pub fn receive(&self) -> Vec<u8> {
+        let mut buffer = [0; 1024];
+        let (length, _) = self.socket.recv_from(&mut buffer).expect("a packet");
+        buffer[..length].to_vec()
+    }
+
+    pub fn ask(&self, packet: &[u8]) -> Vec<u8> {
+        self.send(packet);
+        self.receive()
+    }
+
+    /// That a packet gets no answer: what is asked after it is answered first.
+    pub fn gets_silence(&self, packet: &[u8]) {
+        self.send(packet);
+        let after = request(ID.as_bytes(), PASSWORD, 1, &[0xFF, 0x04, 0x02]);
+        let answer = response(ID.as_bytes(), PASSWORD, &[0xFF, 0x04, 0x02, 0x00]);
+        assert_eq!(self.ask(&after), answer, "after {packet:02X?}");
+    }
+}
+
+/// A packet put together here, by the guide: head, ID, password, function, data, checksum.
+pub fn request(id: &[u8], password: &str, function: u8, data: &[u8]) -> Vec<u8> {
+    let mut packet = vec![0xFD, 0xFD, 0x02, 0x10];
+    packet.extend_from_slice(id);
+    packet.push(password.len() as u8);
+    packet.extend_from_slice(password.as_bytes());
+    packet.push(function);
+    packet.extend_from_slice(data);
+    let sum: u16 = packet[2..].iter().map(|byte| u16::from(*byte)).sum();
+    packet.extend_from_slice(&sum.to_le_bytes());
+    packet
+}
+
+pub fn response(id: &[u8], password: &str, data: &[u8]) -> Vec<u8> {
+    request(id, password, 6, data)
+}
+
+/// The guide's request for 0001 and 0002 (E1), and its response (E2), with a zero ID and password 1111.
+pub const E1: [u8; 30] = [
+    0xFD, 0xFD, 0x02, 0x10, 0, 0, 0, 0, 0, 0, 0, 0, 0, 0, 0, 0, 0, 0, 0, 0, 0x04, 0x31, 0x31, 0x31,
+    0x31, 0x01, 0x01, 0x02, 0xDE, 0x00,
+];
+
+pub const E2: [u8; 32] = [
+    0xFD, 0xFD, 0x02, 0x10, 0, 0, 0, 0, 0, 0, 0, 0, 0, 0, 0, 0, 0, 0, 0, 0, 0x04, 0x31, 0x31, 0x31,
+    0x31, 0x06, 0x01, 0x00, 0x02, 0x03, 0xE6, 0x00,
+];
+
+pub const E2_LISTING: &str = "number,value\n0x0001,00\n0x0002,03\n";
