@@ -1,8 +1,8 @@
 /*
  * Udgornwy: the controller board of a Micra 100 WiFi unit, and the tool that writes its requests and reads its responses.
  *
- * Link the static libraries that `rt staticlib` writes to target/staticlib: libboard.a for the board's three calls, libtool.a for the
- * tool's three. They allocate nothing, keep nothing between calls and call nothing but memcpy, memmove and memset.
+ * Link target/staticlib/libfirmware.a, which `rt staticlib firmware` writes; with --gc-sections only what is called comes along. It
+ * allocates nothing, keeps nothing between calls and calls nothing but memcpy, memmove and memset.
  *
  * For every call:
  *  - A slice is a pointer and a count. The pointer must not be null, also where the count is 0. What a call writes to, record or buffer,
@@ -63,7 +63,7 @@ _Static_assert(offsetof(udgornwy_kept, refusal) == 254, "the refusal stands at a
 _Static_assert(sizeof(udgornwy_reply) == 2 * sizeof(size_t), "the refusal takes the room of a length");
 _Static_assert(offsetof(udgornwy_reply, length) == sizeof(size_t), "the length follows the refusal");
 
-/* ---- The board: libboard.a ---- */
+/* ---- The board ---- */
 
 /*
  * Makes the start record of an ID, a password and a mode.
@@ -106,7 +106,7 @@ udgornwy_reply udgornwy_packet(udgornwy_board *board, const uint8_t *packet, siz
  */
 udgornwy_kept udgornwy_measure(udgornwy_board board, uint16_t number, const uint8_t *value, size_t value_length);
 
-/* ---- The tool: libtool.a ---- */
+/* ---- The tool ---- */
 
 /*
  * Writes the request packet of a list of commands. Command i has function functions[i] (1 read, 2 write, 3 write and report, 4 raise,

@@ -10,7 +10,6 @@ use crate::hex;
 use crate::options::{Form, Options};
 use crate::rows;
 use crate::server::Settings;
-use crate::target::BROADCAST;
 use crate::values;
 
 #[derive(Debug)]
@@ -132,7 +131,7 @@ fn parse_search(arguments: &[String]) -> Result<Task, String> {
         value: Vec::new(),
     };
     Ok(Task::Request(Request {
-        host: options.value("--host")?.unwrap_or(BROADCAST).to_string(),
+        host: options.needed("--host")?.to_string(),
         id: DEFAULT_ID.to_vec(),
         password: Vec::new(),
         commands: vec![read(0x007C), read(0x00B9)],
@@ -251,12 +250,12 @@ mod tests {
 
     #[test]
     fn a_search_reads_the_id_and_the_unit_type() {
-        let search = request("search");
+        let search = request("search --host h");
         let numbers: Vec<u16> = search.commands.iter().map(|one| one.number).collect();
         assert_eq!(numbers, [0x007C, 0x00B9]);
         assert_eq!(
             (search.host.as_str(), &search.id[..]),
-            (BROADCAST, &DEFAULT_ID[..])
+            ("h", &DEFAULT_ID[..])
         );
     }
 
@@ -299,8 +298,9 @@ mod tests {
             "get speed-mode",
             "get --host h --id 002D6E1B34565815 speed-mode",
             "get --host h --id 1 --password 1111 speed-mode",
-            "search 0x0001",
-            "search --id 002D6E1B34565815",
+            "search",
+            "search --host h 0x0001",
+            "search --host h --id 002D6E1B34565815",
             "board --id 002D6E1B34565815 --password 1111",
             "board --id 002D6E1B34565815 --password 1111 --mode 1",
             "board --id 002D6E1B34565815 --password 1111 --mode ap --listen here",

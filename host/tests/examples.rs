@@ -1,4 +1,4 @@
-//! The examples in C: compiled without a warning, linked with the proved libraries, run.
+//! The examples in C: compiled without a warning, linked with the proved library, run.
 
 use std::path::{Path, PathBuf};
 use std::process::Command;
@@ -22,7 +22,7 @@ fn compile(name: &str) -> PathBuf {
         ])
         .arg(repository().join("include"))
         .arg(source)
-        .args(env!("UDGORNWY_ARCHIVES").split(':'))
+        .arg(env!("UDGORNWY_ARCHIVE"))
         .arg("-o")
         .arg(&program)
         .output()
