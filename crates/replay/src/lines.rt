@@ -56,8 +56,8 @@ fn move_to_start(bytes: &mut [u8], filled: usize, count: usize) {
     }
 }
 
-// How many bytes are kept of a line that has not ended. One that fills the input is cut to a first character that makes it a comment
-// or a bad line, whatever follows.
+// How many bytes are kept of a line that has not ended. One that fills the input is too long: it is cut to a first character that
+// makes it a comment or a bad line, whatever follows.
 fn keep(input: &mut [u8], left: usize) -> usize {
     if left < input.len() {
         return left;

@@ -133,8 +133,8 @@ fn write_room(bytes: &mut [u8], place: usize, size: usize, value: &[u8], text: b
     octets::overwrite(bytes, place - 1, &length);
 }
 
-// Where a row lies is what `store::held` hands back of a store in which each byte is its own place: the first byte is the place of the
-// row's value, their number is its room. (The two texts lie behind the places 32 and 64, so their lengths read there are not short.)
+// By the contract of `store::held` alone: of a store in which each byte is its own place it hands back the places of a row's value.
+// (A text's length is read there too; both texts lie far enough behind for their whole rooms.)
 fn with_row(board: Board, number: u16, value: &[u8]) -> Board {
     let own = places();
     let held = store::held(&own, number);
