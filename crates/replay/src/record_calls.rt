@@ -1,0 +1,203 @@
+// The calls that show the record and write it with no check.
+use crate::calls;
+use crate::calls::Step;
+use crate::fields;
+use crate::fields::Number;
+use crate::hex;
+use crate::hex::Byte;
+use crate::hex::Decoded;
+use crate::output;
+use crate::slices;
+use model::Board;
+use store::Found;
+use store::Store;
+
+// Above the number of every row.
+const NUMBERS: u16 = 0x0500;
+
+fn put_row(text: &mut [u8], at: usize, number: u16, bytes: &[u8]) -> usize {
+    let Found::At(_) = store::find(number) else {
+        return at;
+    };
+    let page = (number / 256) as u8;
+    let low = (number % 256) as u8;
+    output::put_held(text, at, page, low, store::held(bytes, number))
+}
+
+fn put_rows(text: &mut [u8], at: usize, bytes: &[u8]) -> usize {
+    let mut end = at;
+    let mut number: u16 = 0;
+    while number < NUMBERS {
+        end = put_row(text, end, number, bytes);
+        number += 1;
+    }
+    end
+}
+
+fn put_identity(text: &mut [u8], at: usize, board: Board) -> usize {
+    let id = board.id;
+    let password = board.password;
+    let size = octets::wide(board.size);
+    let before_id = output::put(text, at, b"record id=");
+    let after_id = output::put_field(text, before_id, &id);
+    let before_password = output::put(text, after_id, b" password=");
+    let after_password = output::put_field(text, before_password, slices::first(&password, size));
+    let before_mode = output::put(text, after_password, b" mode=");
+    output::put_decimal(text, before_mode, board.mode)
+}
+
+// record
+pub(crate) fn show(board: Board, left: &[u8], text: &mut [u8], at: usize) -> usize {
+    if left.len() != 0 {
+        return output::put_bad(text, at);
+    }
+    let end = put_identity(text, at, board);
+    let store = board.store;
+    let bytes = store.bytes;
+    put_rows(text, end, &bytes)
+}
+
+fn with_id(board: Board, value: &[u8]) -> Board {
+    let mut id = [0u8; 16];
+    octets::overwrite(&mut id, 0, slices::first(value, 16));
+    let password = board.password;
+    let store = board.store;
+    Board {
+        id,
+        password,
+        size: board.size,
+        mode: board.mode,
+        store,
+    }
+}
+
+fn with_password(board: Board, value: &[u8]) -> Board {
+    let mut password = [0u8; 8];
+    let kept = slices::first(value, 8);
+    octets::overwrite(&mut password, 0, kept);
+    let id = board.id;
+    let store = board.store;
+    Board {
+        id,
+        password,
+        size: slices::narrow(kept.len()),
+        mode: board.mode,
+        store,
+    }
+}
+
+fn with_mode(board: Board, mode: u8) -> Board {
+    let id = board.id;
+    let password = board.password;
+    let store = board.store;
+    Board {
+        id,
+        password,
+        size: board.size,
+        mode,
+        store,
+    }
+}
+
+// The bytes of a store in which each byte is its own place.
+fn places() -> [u8; 227] {
+    let mut bytes = [0u8; 227];
+    let mut place: u8 = 0;
+    while place < 227 {
+        bytes[octets::wide(place)] = place;
+        place += 1;
+    }
+    bytes
+}
+
+fn is_text(number: u16) -> bool {
+    match number {
+        0x0095 | 0x0096 => true,
+        _ => false,
+    }
+}
+
+// Writes a value into the room of `size` bytes at `place`, cut or filled up with 0; a text has its length in the byte before.
+fn write_room(bytes: &mut [u8], place: usize, size: usize, value: &[u8], text: bool) {
+    let zeros = [0u8; 227];
+    let kept = slices::first(value, size);
+    octets::overwrite(bytes, place, slices::first(&zeros, size));
+    octets::overwrite(bytes, place, kept);
+    if !text {
+        return;
+    }
+    if place == 0 {
+        return;
+    }
+    let length = [slices::narrow(kept.len())];
+    octets::overwrite(bytes, place - 1, &length);
+}
+
+// By the contract of `store::held` alone: of a store in which each byte is its own place it hands back the places of a row's value.
+// (A text's length is read there too; both texts lie far enough behind for their whole rooms.)
+fn with_row(board: Board, number: u16, value: &[u8]) -> Board {
+    let own = places();
+    let held = store::held(&own, number);
+    if held.len() == 0 {
+        return board;
+    }
+    let place = octets::wide(held[0]);
+    let store = board.store;
+    let mut bytes = store.bytes;
+    write_room(&mut bytes, place, held.len(), value, is_text(number));
+    let id = board.id;
+    let password = board.password;
+    Board {
+        id,
+        password,
+        size: board.size,
+        mode: board.mode,
+        store: Store { bytes },
+    }
+}
+
+fn poked(board: Board, text: &mut [u8], at: usize) -> Step {
+    Step {
+        board,
+        at: output::put(text, at, b"poked"),
+    }
+}
+
+// poke mode N
+fn poke_mode(step: Step, field: &[u8], text: &mut [u8]) -> Step {
+    let Byte::Value(mode) = fields::read_byte(field) else {
+        return calls::bad(step, text);
+    };
+    poked(with_mode(step.board, mode), text, step.at)
+}
+
+// poke id HEX, poke password HEX, poke NUMBER VALUE
+fn poke_bytes(step: Step, name: &[u8], value: &[u8], text: &mut [u8]) -> Step {
+    if octets::equal(name, b"id") {
+        return poked(with_id(step.board, value), text, step.at);
+    }
+    if octets::equal(name, b"password") {
+        return poked(with_password(step.board, value), text, step.at);
+    }
+    let Number::Value(number) = fields::read_number(name) else {
+        return calls::bad(step, text);
+    };
+    poked(with_row(step.board, number, value), text, step.at)
+}
+
+pub(crate) fn poke(step: Step, left: &[u8], text: &mut [u8]) -> Step {
+    let name = fields::first(left, b' ');
+    let last = fields::behind(left, b' ');
+    if !fields::is_last(last) {
+        return calls::bad(step, text);
+    }
+    let field = fields::first(last, b' ');
+    if octets::equal(name, b"mode") {
+        return poke_mode(step, field, text);
+    }
+    let mut bytes = [0u8; 8192];
+    let Decoded::Until(end) = hex::decode(field, &mut bytes, 0) else {
+        return calls::bad(step, text);
+    };
+    poke_bytes(step, name, slices::first(&bytes, end), text)
+}
