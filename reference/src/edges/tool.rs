@@ -247,6 +247,12 @@ fn listings(edges: &mut Edges) {
     );
     let listing = format!("number,value|0x0001,{value}");
     edges.line(format!("list {longest}"), listing);
+    edges.rule("The longest listing: as many unknown parameters as a response can report");
+    let longest = framed(&ID, b"", 6, &"FD AB".repeat(116));
+    let reports = format!("reports{}", " 00AB=unknown".repeat(116));
+    edges.line(format!("read {id} - {longest}"), reports);
+    let listing = format!("number,value{}", "|0x00AB,unknown".repeat(116));
+    edges.line(format!("list {longest}"), listing);
 }
 
 fn code_word(edges: &mut Edges) {
