@@ -1,9 +1,9 @@
 // A packet's bytes: from a frame, and back to the places of its parts or the refusal, 2 to 6.
-ghost use mathlib.Core.Bool.{_||_};
+ghost use mathlib.Core.Bool.{not, _||_};
 ghost use mathlib.Core.Path.{_≡_};
 ghost use lib.Dec.{ltb};
 ghost use lib.ListN.{length};
-ghost use Rattle.octets.specs.Octets.{same};
+ghost use Rattle.octets.specs.Octets.{same, standsAt};
 ghost use Rattle.framing.specs.Checksum.{checksum as checksumOf, lowFirst};
 ghost use Rattle.framing.specs.Frame.{frame};
 ghost use Rattle.framing.specs.Identity.{between, defaultId, isAlphanumeric, isPassword};
@@ -118,13 +118,20 @@ fn check_length(packet: &[u8]) -> Check
     Check::Passed
 }
 
-fn check_mark(packet: &[u8]) -> Check
-    ensures { λ r. ⌜ r ≡ checked (wrongMark (now (packet .entry))) ⌝ }
+// Bytes that a packet must have from a place on.
+fn check_bytes(packet: &[u8], at: usize, expected: &[u8]) -> Check
+    ensures { λ r. ⌜ r ≡ checked (not (standsAt (now (packet .entry)) at (now (expected .entry)))) ⌝ }
 {
-    if octets::stands_at(packet, 0, b"\xFD\xFD") {
+    if octets::stands_at(packet, at, expected) {
         return Check::Passed;
     }
     Check::Failed
+}
+
+fn check_mark(packet: &[u8]) -> Check
+    ensures { λ r. ⌜ r ≡ checked (wrongMark (now (packet .entry))) ⌝ }
+{
+    check_bytes(packet, 0, b"\xFD\xFD")
 }
 
 // A packet too short to have a checksum fails too.
@@ -136,20 +143,14 @@ fn check_checksum(packet: &[u8]) -> Check
     }
     let end = packet.len() - 2;
     let expected = low_first(checksum(&packet[2..end]));
-    if octets::stands_at(packet, end, &expected) {
-        return Check::Passed;
-    }
-    Check::Failed
+    check_bytes(packet, end, &expected)
 }
 
 // TYPE and the ID size.
 fn check_header(packet: &[u8]) -> Check
     ensures { λ r. ⌜ r ≡ checked (wrongHeader (now (packet .entry))) ⌝ }
 {
-    if octets::stands_at(packet, 2, b"\x02\x10") {
-        return Check::Passed;
-    }
-    Check::Failed
+    check_bytes(packet, 2, b"\x02\x10")
 }
 
 // The password size, where it is at most 8 and leaves room for FUNC and the checksum.
