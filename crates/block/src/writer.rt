@@ -6,7 +6,7 @@ ghost use mathlib.Core.List.{[], _++_};
 ghost use lib.Dec.{leb, eqb};
 ghost use Rattle.block.specs.Reading.{between};
 ghost use Rattle.block.specs.Command.{commandOf, held, unknown};
-ghost use Rattle.block.specs.Encoding.{encodeCommand, encodableCommand, encodeReport, encodableReport, encodableLength};
+ghost use Rattle.block.specs.Encoding.{encodeCommand, encodableCommand, encodeReport, encodableReport, encodableLength, encodableParts};
 ghost use Rattle.block.specs.Request.{defaultLength};
 ghost use Rattle.block.specs.Writing.{Writes};
 
@@ -34,8 +34,8 @@ fn encodable(low: u8, length: usize, least: usize) -> bool
 }
 
 // Whether a command of this function with a value of `length` bytes has a form.
-fn encodable_command(function: u8, low: u8, length: usize) -> bool
-    ensures { λ r. ⌜ r ≡ (leb 1 function && leb function 5 && encodableLength (defaultLength function) low length) ⌝ }
+pub fn encodable_command(function: u8, low: u8, length: usize) -> bool
+    ensures { λ r. ⌜ r ≡ encodableParts function low length ⌝ }
 {
     match function {
         1..=5 => encodable(low, length, octets::wide(default_length(function))),

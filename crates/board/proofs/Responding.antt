@@ -1,7 +1,7 @@
 -- What the code makes of a request, case by case.
 use Prim.Native.Nat.{ℕ, _+_, _-_, _<_, _≤_}
 use native.Mathlib.Omega.{arith}
-use mathlib.Core.Bool.{Bool, true, false, cond}
+use mathlib.Core.Bool.{Bool, true, false, cond, not, _&&_}
 use mathlib.Core.List.{List}
 use mathlib.Core.Option.{Option, none, some}
 use mathlib.Core.Path.{_≡_, refl, sym, ap, _∙_}
@@ -9,7 +9,7 @@ use borrow.Author.Tests.{eq-eqb, ne-eqb, leb-true}
 use lib.ListN.{length, drop, length-take}
 use Rattle.octets.proofs.Booleans.{both-true}
 use Rattle.octets.proofs.Overwriting.{length-overwrite}
-use Rattle.octets.specs.Octets.{overwrite}
+use Rattle.octets.specs.Octets.{overwrite, same}
 use Rattle.framing.specs.Frame.{Frame, packetOf}
 use Rattle.framing.specs.Packet.{Writes, writable}
 use Rattle.framing.specs.declared.Written.{Written}
@@ -22,17 +22,18 @@ use Rattle.framing.proofs.Checks.{within-lengths, within-sizes}
 use Rattle.framing.proofs.WritesRead.{accepted}
 use Rattle.block.specs.Command.{Command}
 use Rattle.block.specs.Encoding.{encodableReport, encodeReports, every}
-use Rattle.block.specs.Request.{commands}
+use Rattle.block.specs.Request.{commands, onlyReads}
 use Rattle.store.specs.declared.Store.{Store}
-use Rattle.board.specs.Answering.{Leaves, answered, inIdentity, numberIn, refusedWith, responded, respondedIn, respondedWith, responseOf, scopeOf}
+use Rattle.board.specs.Answering.{Leaves, answered, checked, inIdentity, numberIn, refusedWith, responded, respondedIn, respondedWith, responseOf, scopeOf}
 use Rattle.model.specs.Commands.{run}
 use Rattle.board.specs.Draft.{blank, exceeded, extended, ranBehind, ranBlock, ranOf, runReportsIn, taken}
-use Rattle.model.specs.Record.{withStore}
+use Rattle.model.specs.Record.{passwordOf, withStore}
 use Rattle.model.specs.Step.{Call, Outcome, Request, Steps, step, outcomeOf, isDiscovery, otherId, wrongPassword, wrongFunction, malformed, discoveryWrites}
 use Rattle.model.specs.declared.Answer.{Answer}
 use Rattle.model.specs.declared.Answer.the-variants.{Refused, Response, Silence}
 use Rattle.model.specs.declared.Board.{Board}
 use Rattle.model.specs.declared.Stepped.{Stepped}
+use Rattle.board.specs.declared.checks.Check.{Check}
 use Rattle.board.specs.declared.commands.Ran.{Ran}
 use Rattle.board.specs.declared.commands.Scope.{Scope}
 use Rattle.board.specs.declared.draft.Room.{Room}
@@ -121,9 +122,20 @@ answered-by r buffer a b c d e =
     (cond (e i) (refusedWith 11 r buffer) (responded (scopeOf (isDiscovery r)) r buffer)))))
 
 -- a scope tells whether there is a discovery
-pub scope-told : (discovery : Bool) → inIdentity (scopeOf discovery) ≡ discovery
+scope-told : (discovery : Bool) → inIdentity (scopeOf discovery) ≡ discovery
 scope-told true = refl
 scope-told false = refl
+
+-- what the checks of 8 and 11, which know the scope, say of the request
+module _ (r : Request) {scope : Scope} (told : scope ≡ scopeOf (isDiscovery r)) where
+  is-discovery : inIdentity scope ≡ isDiscovery r
+  is-discovery = ap inIdentity told ∙ scope-told (isDiscovery r)
+
+  pub password-told : {check : Check} → check ≡ checked (not (inIdentity scope) && not (same (r .frame .password) (passwordOf (r .board)))) → check ≡ checked (wrongPassword r)
+  password-told e = e ∙ ap (λ (discovery : Bool). checked (not discovery && not (same (r .frame .password) (passwordOf (r .board))))) is-discovery
+
+  pub reads-told : {check : Check} → check ≡ checked (inIdentity scope && not (onlyReads (r .frame .function) (r .frame .block))) → check ≡ checked (discoveryWrites r)
+  reads-told e = e ∙ ap (λ (discovery : Bool). checked (discovery && not (onlyReads (r .frame .function) (r .frame .block)))) is-discovery
 
 -- what framing's reader answered
 pub refused-number : (refusal : Option ℕ) (places : Places) {parsed : Parsed} {number : ℕ} → parsed ≡ parsedAs refusal places → parsed ≡ read.Refused number → refusal ≡ some (numberIn parsed)

@@ -5,7 +5,6 @@ ghost use mathlib.Core.Path.{_≡_};
 ghost use lib.Dec.{ltb};
 ghost use lib.ListN.{take, drop, getD};
 ghost use Rattle.block.specs.Encoding.{encodableCommand};
-ghost use Rattle.block.specs.Request.{defaultLength};
 ghost use Rattle.tool.specs.Checks.{checked};
 ghost use Rattle.tool.specs.CommandList.{commandTo, commandList, SideBySide, describesList};
 ghost use Rattle.tool.specs.Request.{writeCall, notEncodable, Encodes, Writes};
@@ -82,33 +81,11 @@ fn check_list(functions: &[u8], numbers: &[u16], lengths: &[u16], values: &[u8])
     super::passed_if(left == 0)
 }
 
-// The fewest value bytes of a command.
-fn least_length(function: u8) -> usize
-    ensures { λ r. ⌜ r ≡ defaultLength function ⌝ }
-{
-    match function {
-        2 | 3 => 1,
-        _ => 0,
-    }
-}
-
 // Whether the format has a form for a command.
 fn is_encodable(function: u8, number: u16, value: &[u8]) -> bool
     ensures { λ r. ⌜ r ≡ encodableCommand (commandTo function number (now (value .entry))) ⌝ }
 {
-    if function < 1 {
-        return false;
-    }
-    if 5 < function {
-        return false;
-    }
-    if 0xFB < number % 256 {
-        return false;
-    }
-    if 255 < value.len() {
-        return false;
-    }
-    least_length(function) <= value.len()
+    block::writer::encodable_command(function, (number % 256) as u8, value.len())
 }
 
 // Whether each command of the list has a form.

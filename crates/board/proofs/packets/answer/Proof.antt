@@ -1,17 +1,11 @@
 -- `board::packets::answer` meets its contract.
 use mathlib.Core.Path.{_≡_, refl, sym, ap, _∙_}
-use mathlib.Core.Bool.{Bool, true, false, not, _&&_, _||_}
 use denote.Ref.{now}
-use Rattle.octets.specs.Octets.{same}
-use Rattle.block.specs.Request.{onlyReads}
 use Rattle.framing.specs.Frame.{frame}
-use Rattle.board.specs.Answering.{respondedWith, responded, inIdentity, checked, scopeOf}
-use Rattle.model.specs.Step.{requestOf, isDiscovery}
-use Rattle.model.specs.Record.{passwordOf}
-use Rattle.board.specs.declared.commands.Ran.{Ran}
+use Rattle.board.specs.Answering.{responded}
+use Rattle.model.specs.Step.{requestOf}
 use Rattle.board.specs.declared.commands.Scope.{Scope}
-use Rattle.model.specs.declared.Answer.the-variants.{Response}
-use Rattle.board.proofs.Responding.{leaves, leaves-as, responded-over, responded-silent, responded-long, responded-full, frame-written, frame-not-written, answered-by, scope-told}
+use Rattle.board.proofs.Responding.{leaves, leaves-as, answered-by, password-told, reads-told}
 use Rattle.board.proofs.Checking.{passed, failed}
 use borrow.Author.Needs.{needs}
 use Rattle.board.proofs.packets.answer.Statement.{statement}
@@ -60,7 +54,7 @@ returns-2 c =
     let request = requestOf (args .board) (frame (now (args .id)) (now (args .password)) (args .function) (now (args .bytes))) in
     let buffer = now (args .response) in
     let id-right = passed _ (c .before .before .before .before .before .before .before .check-address .ensures) (c .before .before .before .before .before .enum-told .given .1) in
-    let wrong = failed _ (c .before .before .before .check-password .ensures ∙ ap (λ (scope : Scope). checked (not (inIdentity scope) && not (same (now (args .password)) (passwordOf (args .board))))) (c .before .before .before .before .scope-of .ensures) ∙ ap (λ (discovery : Bool). checked (not discovery && not (same (now (args .password)) (passwordOf (args .board))))) (scope-told (isDiscovery request))) (c .before .enum-told4 .given .1) in
+    let wrong = failed _ (password-told request (c .before .before .before .before .scope-of .ensures) (c .before .before .before .check-password .ensures)) (c .before .enum-told4 .given .1) in
     leaves (answered-by request buffer id-right wrong refl refl refl) (c .refused2 .ensures .0) (c .refused2 .ensures .1) refl
 
 check-function-requires : tie.Need-check-function-requires
@@ -81,7 +75,7 @@ returns-3 c =
     let request = requestOf (args .board) (frame (now (args .id)) (now (args .password)) (args .function) (now (args .bytes))) in
     let buffer = now (args .response) in
     let id-right = passed _ (c .before .before .before .before .before .before .before .before .before .before .check-address .ensures) (c .before .before .before .before .before .before .before .before .enum-told .given .1) in
-    let password-right = passed _ (c .before .before .before .before .before .before .check-password .ensures ∙ ap (λ (scope : Scope). checked (not (inIdentity scope) && not (same (now (args .password)) (passwordOf (args .board))))) (c .before .before .before .before .before .before .before .scope-of .ensures) ∙ ap (λ (discovery : Bool). checked (not discovery && not (same (now (args .password)) (passwordOf (args .board))))) (scope-told (isDiscovery request))) (c .before .before .before .before .enum-told3 .given .1) in
+    let password-right = passed _ (password-told request (c .before .before .before .before .before .before .before .scope-of .ensures) (c .before .before .before .before .before .before .check-password .ensures)) (c .before .before .before .before .enum-told3 .given .1) in
     let wrong = failed _ (c .before .before .before .check-function .ensures) (c .before .enum-told6 .given .1) in
     leaves (answered-by request buffer id-right password-right wrong refl refl) (c .refused3 .ensures .0) (c .refused3 .ensures .1) refl
 
@@ -103,7 +97,7 @@ returns-4 c =
     let request = requestOf (args .board) (frame (now (args .id)) (now (args .password)) (args .function) (now (args .bytes))) in
     let buffer = now (args .response) in
     let id-right = passed _ (c .before .before .before .before .before .before .before .before .before .before .before .before .before .check-address .ensures) (c .before .before .before .before .before .before .before .before .before .before .before .enum-told .given .1) in
-    let password-right = passed _ (c .before .before .before .before .before .before .before .before .before .check-password .ensures ∙ ap (λ (scope : Scope). checked (not (inIdentity scope) && not (same (now (args .password)) (passwordOf (args .board))))) (c .before .before .before .before .before .before .before .before .before .before .scope-of .ensures) ∙ ap (λ (discovery : Bool). checked (not discovery && not (same (now (args .password)) (passwordOf (args .board))))) (scope-told (isDiscovery request))) (c .before .before .before .before .before .before .before .enum-told3 .given .1) in
+    let password-right = passed _ (password-told request (c .before .before .before .before .before .before .before .before .before .before .scope-of .ensures) (c .before .before .before .before .before .before .before .before .before .check-password .ensures)) (c .before .before .before .before .before .before .before .enum-told3 .given .1) in
     let function-right = passed _ (c .before .before .before .before .before .before .check-function .ensures) (c .before .before .before .before .enum-told5 .given .1) in
     let wrong = failed _ (c .before .before .before .check-block .ensures) (c .before .enum-told8 .given .1) in
     leaves (answered-by request buffer id-right password-right function-right wrong refl) (c .refused4 .ensures .0) (c .refused4 .ensures .1) refl
@@ -126,10 +120,10 @@ returns-5 c =
     let request = requestOf (args .board) (frame (now (args .id)) (now (args .password)) (args .function) (now (args .bytes))) in
     let buffer = now (args .response) in
     let id-right = passed _ (c .before .before .before .before .before .before .before .before .before .before .before .before .before .before .before .before .check-address .ensures) (c .before .before .before .before .before .before .before .before .before .before .before .before .before .before .enum-told .given .1) in
-    let password-right = passed _ (c .before .before .before .before .before .before .before .before .before .before .before .before .check-password .ensures ∙ ap (λ (scope : Scope). checked (not (inIdentity scope) && not (same (now (args .password)) (passwordOf (args .board))))) (c .before .before .before .before .before .before .before .before .before .before .before .before .before .scope-of .ensures) ∙ ap (λ (discovery : Bool). checked (not discovery && not (same (now (args .password)) (passwordOf (args .board))))) (scope-told (isDiscovery request))) (c .before .before .before .before .before .before .before .before .before .before .enum-told3 .given .1) in
+    let password-right = passed _ (password-told request (c .before .before .before .before .before .before .before .before .before .before .before .before .before .scope-of .ensures) (c .before .before .before .before .before .before .before .before .before .before .before .before .check-password .ensures)) (c .before .before .before .before .before .before .before .before .before .before .enum-told3 .given .1) in
     let function-right = passed _ (c .before .before .before .before .before .before .before .before .before .check-function .ensures) (c .before .before .before .before .before .before .before .enum-told5 .given .1) in
     let block-right = passed _ (c .before .before .before .before .before .before .check-block .ensures) (c .before .before .before .before .enum-told7 .given .1) in
-    let wrong = failed _ (c .before .before .before .check-reads .ensures ∙ ap (λ (scope : Scope). checked (inIdentity scope && not (onlyReads (args .function) (now (args .bytes))))) (c .before .before .before .before .before .before .before .before .before .before .before .before .before .scope-of .ensures) ∙ ap (λ (discovery : Bool). checked (discovery && not (onlyReads (args .function) (now (args .bytes))))) (scope-told (isDiscovery request))) (c .before .enum-told10 .given .1) in
+    let wrong = failed _ (reads-told request (c .before .before .before .before .before .before .before .before .before .before .before .before .before .scope-of .ensures) (c .before .before .before .check-reads .ensures)) (c .before .enum-told10 .given .1) in
     leaves (answered-by request buffer id-right password-right function-right block-right wrong) (c .refused5 .ensures .0) (c .refused5 .ensures .1) refl
 
 respond-requires : tie.Need-respond-requires
@@ -144,10 +138,10 @@ returns-6 c =
     let request = requestOf (args .board) (frame (now (args .id)) (now (args .password)) (args .function) (now (args .bytes))) in
     let buffer = now (args .response) in
     let id-right = passed _ (c .before .before .before .before .before .before .before .before .before .before .before .before .before .before .before .before .before .before .before .check-address .ensures) (c .before .before .before .before .before .before .before .before .before .before .before .before .before .before .before .before .before .enum-told .given .1) in
-    let password-right = passed _ (c .before .before .before .before .before .before .before .before .before .before .before .before .before .before .before .check-password .ensures ∙ ap (λ (scope : Scope). checked (not (inIdentity scope) && not (same (now (args .password)) (passwordOf (args .board))))) (c .before .before .before .before .before .before .before .before .before .before .before .before .before .before .before .before .scope-of .ensures) ∙ ap (λ (discovery : Bool). checked (not discovery && not (same (now (args .password)) (passwordOf (args .board))))) (scope-told (isDiscovery request))) (c .before .before .before .before .before .before .before .before .before .before .before .before .before .enum-told3 .given .1) in
+    let password-right = passed _ (password-told request (c .before .before .before .before .before .before .before .before .before .before .before .before .before .before .before .before .scope-of .ensures) (c .before .before .before .before .before .before .before .before .before .before .before .before .before .before .before .check-password .ensures)) (c .before .before .before .before .before .before .before .before .before .before .before .before .before .enum-told3 .given .1) in
     let function-right = passed _ (c .before .before .before .before .before .before .before .before .before .before .before .before .check-function .ensures) (c .before .before .before .before .before .before .before .before .before .before .enum-told5 .given .1) in
     let block-right = passed _ (c .before .before .before .before .before .before .before .before .before .check-block .ensures) (c .before .before .before .before .before .before .before .enum-told7 .given .1) in
-    let reads-right = passed _ (c .before .before .before .before .before .before .check-reads .ensures ∙ ap (λ (scope : Scope). checked (inIdentity scope && not (onlyReads (args .function) (now (args .bytes))))) (c .before .before .before .before .before .before .before .before .before .before .before .before .before .before .before .before .scope-of .ensures) ∙ ap (λ (discovery : Bool). checked (discovery && not (onlyReads (args .function) (now (args .bytes))))) (scope-told (isDiscovery request))) (c .before .before .before .before .enum-told9 .given .1) in
+    let reads-right = passed _ (reads-told request (c .before .before .before .before .before .before .before .before .before .before .before .before .before .before .before .before .scope-of .ensures) (c .before .before .before .before .before .before .check-reads .ensures)) (c .before .before .before .before .enum-told9 .given .1) in
     leaves-as
     (answered-by request buffer id-right password-right function-right block-right reads-right
     ∙ ap (λ (scope : Scope). responded scope request buffer) (sym (c .before .before .before .before .before .before .before .before .before .before .before .before .before .before .before .before .scope-of .ensures)))

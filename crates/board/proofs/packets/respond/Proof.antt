@@ -11,7 +11,7 @@ use Rattle.model.specs.Record.{passwordOf}
 use Rattle.board.specs.declared.commands.Ran.{Ran}
 use Rattle.board.specs.declared.commands.Scope.{Scope}
 use Rattle.model.specs.declared.Answer.the-variants.{Response}
-use Rattle.board.proofs.Responding.{leaves, leaves-as, ran-inside, responded-over, responded-silent, responded-long, responded-full, frame-written, frame-not-written, answered-by, scope-told}
+use Rattle.board.proofs.Responding.{leaves, leaves-as, ran-inside, responded-over, responded-silent, responded-long, responded-full, frame-written, frame-not-written}
 use Rattle.board.proofs.Checking.{passed, failed}
 use borrow.Author.Needs.{needs}
 use Rattle.board.proofs.packets.respond.Statement.{statement}
