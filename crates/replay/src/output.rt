@@ -6,6 +6,9 @@ use libc::STDOUT_FILENO;
 // No answer is longer.
 const LONGEST: usize = 4096;
 
+// What each byte of a lent buffer is before the call.
+pub(crate) const FILLER: u8 = 0xA5;
+
 pub(crate) fn put(text: &mut [u8], at: usize, bytes: &[u8]) -> usize {
     if text.len() < at {
         return at;
@@ -82,7 +85,7 @@ pub(crate) fn put_bad(text: &mut [u8], at: usize) -> usize {
     put(text, at, b"bad line")
 }
 
-// The lines of a text, joined by vertical bars.
+// The lines of a text, joined by vertical bars; its last byte, the last line's end, is left out.
 pub(crate) fn put_joined(text: &mut [u8], at: usize, lines: &[u8]) -> usize {
     let mut end = at;
     let mut i: usize = 1;
@@ -100,9 +103,6 @@ fn joining(character: u8) -> u8 {
     }
     character
 }
-
-// What each byte of a lent buffer is before the call.
-pub(crate) const FILLER: u8 = 0xA5;
 
 // A mark where a call changed a buffer of up to 1,024 bytes outside the length it gave back.
 pub(crate) fn put_dirty(text: &mut [u8], at: usize, rest: &[u8]) -> usize {
