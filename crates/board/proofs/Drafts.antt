@@ -14,11 +14,11 @@ use Rattle.octets.proofs.Overwriting.{length-overwrite, overwrite-behind}
 use Rattle.octets.proofs.Booleans.{both-true}
 use Rattle.block.specs.Command.{Report, reportPage}
 use Rattle.block.specs.Encoding.{encodeReport, encodeReports, lastPage, encodableReport, every}
-use Rattle.block.specs.Writing.{Writes}
-use Rattle.block.specs.declared.writer.Written.{Written}
-use Rattle.block.specs.declared.writer.Written.the-variants.{Until}
-use Rattle.block.proofs.writer.Written as Written
-use Rattle.block.proofs.Appending.{until-told, refused-told}
+use Rattle.encoding.specs.Writing.{Writes}
+use Rattle.encoding.specs.declared.Written.{Written}
+use Rattle.encoding.specs.declared.Written.the-variants.{Until}
+use Rattle.encoding.proofs.Written as Written
+use Rattle.encoding.proofs.Appending.{until-told, refused-told}
 use Rattle.block.proofs.RoundTrips.{reports-join, last-page-join}
 use Rattle.board.specs.declared.draft.Draft.{Draft}
 use Rattle.board.specs.declared.draft.Room.the-variants.{Left, Over}

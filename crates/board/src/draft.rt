@@ -1,5 +1,5 @@
 // The data block of a response while it is written.
-use block::writer::Written;
+use encoding::Written;
 ghost use mathlib.Core.List.{[], _∷_};
 ghost use mathlib.Core.Path.{_≡_};
 ghost use Rattle.block.specs.Command.{held, unknown};
@@ -38,14 +38,8 @@ pub(crate) fn with_value(draft: Draft, page: u8, low: u8, value: &[u8]) -> Draft
     let at = draft.length;
     let in_force = draft.page;
     let mut bytes = draft.bytes;
-    let Written::Until(length) = block::writer::write_report(
-        &mut bytes,
-        at,
-        in_force,
-        page,
-        low,
-        value,
-    ) else {
+    let Written::Until(length) = encoding::write_report(&mut bytes, at, in_force, page, low, value)
+    else {
         return over(draft);
     };
     Draft {
@@ -63,8 +57,7 @@ pub(crate) fn with_unknown(draft: Draft, page: u8, low: u8) -> Draft
     let at = draft.length;
     let in_force = draft.page;
     let mut bytes = draft.bytes;
-    let Written::Until(length) = block::writer::write_unknown(&mut bytes, at, in_force, page, low)
-    else {
+    let Written::Until(length) = encoding::write_unknown(&mut bytes, at, in_force, page, low) else {
         return over(draft);
     };
     Draft {

@@ -14,13 +14,13 @@ use Rattle.octets.specs.Octets.{overwrite, fits, Overwrites}
 use Rattle.octets.proofs.Overwriting.{overwrites, overwrites-behind, length-overwrite}
 use Rattle.block.specs.Command.{Report, held, unknown}
 use Rattle.block.specs.Response.{reportsFrom}
-use Rattle.block.specs.Writing.{Writes}
-use Rattle.block.specs.declared.writer.Written.{Written}
-use Rattle.block.specs.declared.writer.Written.the-variants.{Until, NoRoom}
-use Rattle.block.proofs.writer.Written as Written
-use Rattle.block.proofs.Buffers.{no-room, with-room}
+use Rattle.encoding.specs.Writing.{Writes}
+use Rattle.encoding.specs.declared.Written.{Written}
+use Rattle.encoding.specs.declared.Written.the-variants.{Until, NoRoom}
+use Rattle.encoding.proofs.Written as Written
+use Rattle.encoding.proofs.Buffers.{no-room, with-room}
 use Rattle.tool.specs.Listing.{hexBytes, lineStart, lineFeed, reportLine, reportLines, header, textFrom, Lines}
-use Rattle.block.proofs.Appending.{appended, refused-told}
+use Rattle.encoding.proofs.Appending.{appended, refused-told}
 use Rattle.tool.proofs.Texts.{length-hex}
 
 module _ (page low : ℕ) (value : List ℕ) where

@@ -9,8 +9,8 @@ use lib.ListN.{length, take}
 use Rattle.octets.specs.Octets.{overwrite, fits}
 use Rattle.block.specs.Command.{Report, held, unknown}
 use Rattle.block.specs.Response.{reportsFrom}
-use Rattle.block.specs.declared.writer.Written.{Written}
-use Rattle.block.specs.declared.writer.Written.the-variants.{Until, NoRoom as NoSpace}
+use Rattle.encoding.specs.declared.Written.{Written}
+use Rattle.encoding.specs.declared.Written.the-variants.{Until, NoRoom as NoSpace}
 use Rattle.tool.specs.Response.{reportsOf, anyResponseRefusal}
 use Rattle.tool.specs.declared.listing.Listed.{Listed}
 use Rattle.tool.specs.declared.listing.Listed.the-variants.{Length, NoRoom}

@@ -1,14 +1,14 @@
 // Lists a response as text.
 use super::response::Response;
 use block::response::NextReport;
-use block::writer::Written;
+use encoding::Written;
 ghost use mathlib.Core.Bool.{true};
 ghost use mathlib.Core.List.{_∷_, []};
 ghost use mathlib.Core.Path.{_≡_};
 ghost use Prim.Native.Nat.{_<_, _/_, _%_};
 ghost use Rattle.octets.specs.Octets.{Overwrites};
 ghost use Rattle.block.specs.Command.{held, unknown};
-ghost use Rattle.block.specs.Writing.{Writes};
+ghost use Rattle.encoding.specs.Writing.{Writes};
 ghost use Rattle.tool.specs.Listing.{hexDigit, hexBytes, lineStart, reportLine, refusedLine, listing, Shows, Lines};
 ghost use Rattle.tool.specs.Response.{refusedNumber};
 

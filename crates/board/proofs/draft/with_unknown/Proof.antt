@@ -3,7 +3,7 @@ use Prim.Native.Nat.{ℕ}
 use mathlib.Core.Path.{_≡_, _∙_}
 use denote.Ref.{now}
 use Rattle.block.specs.Command.{held, unknown}
-use Rattle.block.specs.declared.writer.Written.the-variants.{Until}
+use Rattle.encoding.specs.declared.Written.the-variants.{Until}
 use Rattle.board.proofs.Drafts.{one-written, one-over}
 use borrow.Author.Needs.{needs}
 use Rattle.board.proofs.draft.with_unknown.Statement.{statement}
