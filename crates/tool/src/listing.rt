@@ -9,7 +9,7 @@ ghost use Prim.Native.Nat.{_<_, _/_, _%_};
 ghost use Rattle.octets.specs.Octets.{Overwrites};
 ghost use Rattle.block.specs.Command.{held, unknown};
 ghost use Rattle.encoding.specs.Writing.{Writes};
-ghost use Rattle.tool.specs.Listing.{hexDigit, hexBytes, lineStart, reportLine, refusedLine, listing, Shows, Lines};
+ghost use Rattle.tool.specs.Listing.{hexDigit, hexBytes, lineStart, reportLine, refusedLine, listing, Shows, Lines, nextLine, WritesNext};
 ghost use Rattle.tool.specs.Response.{refusedNumber};
 
 pub enum Listed {
@@ -105,6 +105,50 @@ fn write_unknown(text: &mut [u8], at: usize, page: u8, low: u8) -> Written
     Written::NoRoom
 }
 
+// What became of the line of a block's next report.
+enum NextLine {
+    // It ends at this place of the text. Behind the report this page is in force, and so many bytes of the block are left.
+    Until { end: usize, page: u8, rest: usize },
+    NoRoom,
+    // The block has no report left.
+    End,
+    Malformed,
+}
+
+fn next_line(written: Written, page: u8, rest: usize) -> NextLine
+    ensures { λ r. ⌜ r ≡ nextLine written page rest ⌝ }
+{
+    match written {
+        Written::Until(end) => NextLine::Until { end, page, rest },
+        Written::NoRoom => NextLine::NoRoom,
+        Written::NoEncoding => NextLine::NoRoom,
+    }
+}
+
+// Writes the line of the next report of what is left of a block into `text` from `at` on.
+fn write_next(text: &mut [u8], at: usize, left: &[u8], page: u8) -> NextLine
+    ensures { λ r. ⌜ WritesNext (now (left .entry)) page (now (text .entry)) at r (now (text .exit)) ⌝ }
+{
+    match block::response::next_report(left, page) {
+        NextReport::End => NextLine::End,
+        NextReport::Malformed => NextLine::Malformed,
+        NextReport::Held {
+            page: named,
+            low,
+            value,
+            rest,
+        } => {
+            let bytes = block::part(left, value, rest);
+            next_line(write_held(text, at, named, low, bytes), named, rest)
+        }
+        NextReport::Unknown {
+            page: named,
+            low,
+            rest,
+        } => next_line(write_unknown(text, at, named, low), named, rest),
+    }
+}
+
 // Writes the header and the lines of a data block into the first bytes of `text`.
 fn write_lines(text: &mut [u8], block: &[u8]) -> Written
     ensures { λ r. ⌜ Lines (now (block .entry)) (now (text .entry)) r (now (text .exit)) ⌝ }
@@ -116,37 +160,15 @@ fn write_lines(text: &mut [u8], block: &[u8]) -> Written
     let mut left = block;
     let mut page: u8 = 0;
     loop {
-        match block::response::next_report(left, page) {
-            NextReport::End => return Written::Until(at),
-            NextReport::Malformed => return Written::NoEncoding,
-            NextReport::Held {
+        match write_next(text, at, left, page) {
+            NextLine::End => return Written::Until(at),
+            NextLine::Malformed => return Written::NoEncoding,
+            NextLine::NoRoom => return Written::NoRoom,
+            NextLine::Until {
+                end,
                 page: named,
-                low,
-                value,
                 rest,
             } => {
-                let Written::Until(end) = write_held(
-                    text,
-                    at,
-                    named,
-                    low,
-                    block::part(left, value, rest),
-                ) else {
-                    return Written::NoRoom;
-                };
-                let behind = block::part(left, rest, 0);
-                left = behind;
-                page = named;
-                at = end;
-            }
-            NextReport::Unknown {
-                page: named,
-                low,
-                rest,
-            } => {
-                let Written::Until(end) = write_unknown(text, at, named, low) else {
-                    return Written::NoRoom;
-                };
                 let behind = block::part(left, rest, 0);
                 left = behind;
                 page = named;
