@@ -5,6 +5,7 @@ use crate::packet::{self, CODE_WORD, Frame, LONGEST, RESPONSE};
 use crate::record::{CLIENT, Record};
 use crate::refusal::Refusal;
 use crate::rows::{self, Access, ID_ROW, UNIT_TYPE_ROW};
+use crate::schedule;
 
 /// Answers a packet: the length of the response at the front of the buffer, 0 for silence.
 /// A refusal leaves record and buffer as they were.
@@ -59,10 +60,23 @@ fn run(record: &mut Record, command: &Command, search: bool) -> Option<Report> {
     if search && number != ID_ROW && number != UNIT_TYPE_ROW {
         return None;
     }
-    let reported = command.function != 2;
-    let Some(row) = rows::find(number) else {
-        return reported.then_some(Report::Unknown { number });
+    let value = match number {
+        schedule::NUMBER => record.schedule.run(command.function, &command.value),
+        _ => run_row(record, command),
     };
+    if command.function == 2 {
+        return None;
+    }
+    Some(match value {
+        Some(value) => Report::Value { number, value },
+        None => Report::Unknown { number },
+    })
+}
+
+/// Runs a command on a row and gives the value it then holds; none if there is no such row.
+fn run_row(record: &mut Record, command: &Command) -> Option<Vec<u8>> {
+    let number = command.number;
+    let row = rows::find(number)?;
     let held = record.values[&number].clone();
     let new = match command.function {
         2 | 3 if row.takes(command.function) => row.written(&held, &command.value),
@@ -72,7 +86,7 @@ fn run(record: &mut Record, command: &Command, search: bool) -> Option<Report> {
     };
     let value = new.unwrap_or(held);
     record.values.insert(number, value.clone());
-    reported.then_some(Report::Value { number, value })
+    Some(value)
 }
 
 /// The response, empty for silence; check 12.
@@ -286,6 +300,85 @@ mod tests {
         let data = [0xFE, 2, 0x95, 0x41, 0x42, 0x95, 0x43, 0x95, 0x7F];
         let expected = vec![0xFE, 2, 0x95, 0x41, 0x42, 0x95, 0x43, 0x95, 0x43];
         assert_eq!(own(&mut record, 3, &data), Ok(expected));
+    }
+
+    #[test]
+    fn the_schedule_is_read_and_written_by_01_02_and_03() {
+        let mut record = board(CLIENT);
+        let group = [0xFE, 6, 0x77, 9, 4, 5, 30, 59, 23];
+        assert_eq!(own(&mut record, 2, &group), Ok(vec![]));
+        let reads = [
+            0xFE, 2, 0x77, 6, 4, 0xFE, 2, 0x77, 7, 4, 0xFE, 2, 0x77, 5, 4,
+        ];
+        let expected = [
+            [0xFE, 6, 0x77, 6, 4, 5, 30, 59, 23],
+            [0xFE, 6, 0x77, 7, 4, 5, 30, 59, 23],
+            [0xFE, 6, 0x77, 5, 4, 0, 0, 0, 0],
+        ];
+        assert_eq!(own(&mut record, 1, &reads), Ok(expected.concat()));
+        let before = record.clone();
+        let bad = [0xFE, 6, 0x77, 9, 4, 5, 30, 60, 23];
+        assert_eq!(own(&mut record, 3, &bad), Ok(expected[0].to_vec()));
+        assert_eq!(own(&mut record, 2, &bad), Ok(vec![]));
+        assert_eq!(record, before);
+        let written = own(&mut record, 3, &[0xFE, 6, 0x77, 8, 1, 1, 15, 0, 0]);
+        assert_eq!(written, Ok(vec![0xFE, 6, 0x77, 1, 1, 1, 15, 0, 0]));
+        assert_eq!(record.values, before.values);
+        assert_eq!(record.schedule.entry(5, 1), &[1, 15, 0, 0]);
+    }
+
+    #[test]
+    fn faults_of_the_schedule_are_unknown_and_under_02_silent() {
+        let mut record = board(ACCESS_POINT);
+        let before = record.clone();
+        for (functions, data) in [
+            (&[1, 4, 5][..], &[0x77][..]),
+            (&[1, 3, 4, 5], &[0xFE, 1, 0x77, 1]),
+            (&[1, 3, 4, 5], &[0xFE, 2, 0x77, 8, 1]),
+            (&[3, 4, 5], &[0xFE, 2, 0x77, 1, 1]),
+            (&[1, 4, 5], &[0xFE, 6, 0x77, 1, 1, 5, 30, 0, 0]),
+            (&[3], &[0xFE, 6, 0x77, 10, 1, 5, 30, 0, 0]),
+            (&[3], &[0xFE, 6, 0x77, 1, 5, 5, 30, 0, 0]),
+            (&[3], &[0xFE, 7, 0x77, 1, 1, 5, 30, 0, 0, 0]),
+        ] {
+            for function in functions {
+                let answer = own(&mut record, *function, data);
+                assert_eq!(answer, Ok(vec![0xFD, 0x77]), "{function} {data:?}");
+            }
+            if functions.contains(&3) {
+                assert_eq!(own(&mut record, 2, data), Ok(vec![]));
+            }
+        }
+        let other_page = [0xFF, 1, 0xFE, 6, 0x77, 1, 1, 5, 30, 0, 0];
+        assert_eq!(
+            own(&mut record, 3, &other_page),
+            Ok(vec![0xFF, 1, 0xFD, 0x77])
+        );
+        assert_eq!(record, before);
+    }
+
+    #[test]
+    fn a_search_passes_the_schedule_over() {
+        let mut record = board(CLIENT);
+        let data = [0xFE, 2, 0x77, 1, 1, 0xB9, 0xFE, 2, 0x77, 8, 1, 0x77];
+        let answer = search(&mut record, 1, &data);
+        assert_eq!(answer, Ok(vec![0xFE, 2, 0xB9, 2, 0]));
+        assert_eq!(search(&mut record, 1, &data[..5]), Ok(vec![]));
+    }
+
+    #[test]
+    fn an_entry_outside_its_fields_is_refused_first() {
+        let mut record = board(CLIENT);
+        record.schedule.poke(3, 2, &[0, 14, 0, 0]);
+        let illegal = Err(Refusal::IllegalRecord);
+        assert_eq!(own(&mut record, 1, &[1]), Err(Refusal::IllegalRecord));
+        assert_eq!(
+            packet(&mut record, &[], &mut []),
+            Err(Refusal::IllegalRecord)
+        );
+        assert_eq!(measure(&mut record, schedule::NUMBER, &[]), illegal);
+        record.schedule.poke(3, 2, &[0, 15, 0, 0]);
+        assert_eq!(measure(&mut record, 0x0006, &[1]), Ok(()));
     }
 
     #[test]

@@ -4,6 +4,7 @@ use std::fmt;
 
 use crate::block::Command;
 use crate::hex;
+use crate::schedule;
 
 /// The longest buffer that a call may ask for.
 pub const LONGEST_BUFFER: usize = 1024;
@@ -27,6 +28,11 @@ pub enum Call {
     Record,
     PokeRow {
         number: u16,
+        value: Vec<u8>,
+    },
+    PokeEntry {
+        day: u8,
+        period: u8,
         value: Vec<u8>,
     },
     PokeId(Vec<u8>),
@@ -93,11 +99,28 @@ fn parse_poke(field: &str, value: &str) -> Option<Call> {
         "id" => Some(Call::PokeId(hex::parse_field(value)?)),
         "password" => Some(Call::PokePassword(hex::parse_field(value)?)),
         "mode" => Some(Call::PokeMode(parse_byte(value)?)),
-        number => Some(Call::PokeRow {
-            number: hex::parse_number(number)?,
-            value: hex::parse_field(value)?,
-        }),
+        place => {
+            let value = hex::parse_field(value)?;
+            if let Some((day, period)) = parse_place(place) {
+                return Some(Call::PokeEntry { day, period, value });
+            }
+            let number = hex::parse_number(place)?;
+            Some(Call::PokeRow { number, value })
+        }
     }
+}
+
+/// `0077:D.P`, a day and a period of the schedule.
+fn parse_place(field: &str) -> Option<(u8, u8)> {
+    let (number, place) = field.split_once(':')?;
+    let [day, b'.', period] = *place.as_bytes() else {
+        return None;
+    };
+    let (day, period) = (day.wrapping_sub(b'0'), period.wrapping_sub(b'0'));
+    let exists = hex::parse_number(number)? == schedule::NUMBER
+        && schedule::DAYS.contains(&day)
+        && schedule::PERIODS.contains(&period);
+    exists.then_some((day, period))
 }
 
 /// `F:NNNN:VALUE`.
@@ -143,6 +166,11 @@ impl fmt::Display for Call {
             Call::Record => write!(output, "record"),
             Call::PokeRow { number, value } => {
                 write!(output, "poke {number:04X} {}", hex::field(value))
+            }
+            Call::PokeEntry { day, period, value } => {
+                let number = schedule::NUMBER;
+                let value = hex::field(value);
+                write!(output, "poke {number:04X}:{day}.{period} {value}")
             }
             Call::PokeId(id) => write!(output, "poke id {}", hex::field(id)),
             Call::PokePassword(word) => write!(output, "poke password {}", hex::field(word)),
@@ -201,6 +229,9 @@ mod tests {
             "measure FFFF -",
             "record",
             "poke 0001 02",
+            "poke 0077 01",
+            "poke 0077:1.1 -",
+            "poke 0077:7.4 05000000FF",
             "poke id -",
             "poke password 31",
             "poke mode 7",
@@ -225,6 +256,14 @@ mod tests {
             "packet 256 FD FD",
             "write 256 00 31 1:0001:-  1:0001:-",
             "poke mode 1 1",
+            "poke 0077:0.1 00",
+            "poke 0077:8.1 00",
+            "poke 0077:1.0 00",
+            "poke 0077:1.5 00",
+            "poke 0078:1.1 00",
+            "poke 77:1.1 00",
+            "poke 0077:1:1 00",
+            "poke 0077:1.1 0",
         ] {
             assert_eq!(parse(line), None, "{line}");
         }

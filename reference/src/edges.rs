@@ -82,7 +82,7 @@ pub fn framed(id: &[u8], password: &[u8], function: u8, data: &str) -> String {
     hex::field(&packet::write(id, password, function, &bytes(data)))
 }
 
-/// What `record` writes for a start record with some rows changed.
+/// What `record` writes for a start record with some rows and entries changed.
 pub fn record(id: &[u8], password: &[u8], mode: u8, changes: &[(&str, &str)]) -> String {
     let (id, password) = (hex::field(id), hex::field(password));
     let mut text = format!("record id={id} password={password} mode={mode}");
@@ -95,6 +95,18 @@ pub fn record(id: &[u8], password: &[u8], mode: u8, changes: &[(&str, &str)]) ->
             None => start,
         };
         text += &format!(" {number}={value}");
+    }
+    text + &shown_schedule(changes)
+}
+
+/// The entries of the schedule behind the rows, all zero but for those changed.
+fn shown_schedule(changes: &[(&str, &str)]) -> String {
+    let mut text = String::new();
+    for (day, period) in (1..=7).flat_map(|day| (1..=4).map(move |period| (day, period))) {
+        let place = format!("0077:{day}.{period}");
+        let changed = changes.iter().find(|change| change.0 == place);
+        let entry = changed.map_or("00000000", |change| change.1);
+        text += &format!(" {place}={entry}");
     }
     text
 }
@@ -149,7 +161,7 @@ impl Edges {
         self.ask(function, data, &format!("response {response}"));
     }
 
-    /// The board's record, as set up but for some rows.
+    /// The board's record, as set up but for some rows and entries.
     fn record(&mut self, mode: u8, changes: &[(&str, &str)]) {
         let answer = record(&self.id, &self.password, mode, changes);
         self.line("record", answer);

@@ -15,6 +15,7 @@ pub mod record;
 pub mod refusal;
 pub mod replay;
 pub mod rows;
+pub mod schedule;
 pub mod shrink;
 pub mod tally;
 pub mod tool;

@@ -5,6 +5,7 @@ use std::collections::BTreeMap;
 use crate::packet::{self, CODE_WORD, ID_SIZE, LONGEST_PASSWORD};
 use crate::refusal::Refusal;
 use crate::rows::{self, ID_ROW, UNIT_TYPE, UNIT_TYPE_ROW};
+use crate::schedule::Schedule;
 
 pub const CLIENT: u8 = 1;
 pub const ACCESS_POINT: u8 = 2;
@@ -17,6 +18,7 @@ pub struct Record {
     pub mode: u8,
     /// The value of each row that exists.
     pub values: BTreeMap<u16, Vec<u8>>,
+    pub schedule: Schedule,
 }
 
 impl Record {
@@ -31,6 +33,7 @@ impl Record {
             password: password.to_vec(),
             mode,
             values,
+            schedule: Schedule::start(),
         }
     }
 
@@ -47,7 +50,7 @@ impl Record {
             .filter(|row| row.is_writable())
             .all(|row| row.contains(&self.values[&row.number]));
         let copies = self.values[&ID_ROW] == self.id && self.values[&UNIT_TYPE_ROW] == UNIT_TYPE;
-        if identity && rows && copies {
+        if identity && rows && copies && self.schedule.is_legal() {
             Ok(())
         } else {
             Err(Refusal::IllegalRecord)
@@ -177,7 +180,7 @@ mod tests {
 
     #[test]
     fn each_part_of_the_record_can_make_it_illegal() {
-        let spoil: [fn(&mut Record); 8] = [
+        let spoil: [fn(&mut Record); 10] = [
             |record| record.poke_id(&CODE_WORD),
             |record| record.poke_id(&[1]),
             |record| record.poke_password(b"*"),
@@ -186,6 +189,8 @@ mod tests {
             |record| record.poke_row(0x0096, b"1234567"),
             |record| record.poke_row(0x007C, &ID[..15]),
             |record| record.poke_row(0x00B9, &[3, 0]),
+            |record| record.schedule.poke(1, 1, &[6]),
+            |record| record.schedule.poke(7, 4, &[0, 0, 0, 24]),
         ];
         for change in spoil {
             let (mut record, _) = setup(&ID, b"1111", CLIENT);

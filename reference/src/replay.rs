@@ -9,6 +9,7 @@ use crate::hex;
 use crate::listing;
 use crate::record::{self, Record};
 use crate::refusal::Refusal;
+use crate::schedule;
 use crate::tool;
 
 pub const BAD_LINE: &str = "bad line";
@@ -93,6 +94,9 @@ impl Session {
     fn poke(&mut self, call: &Call) -> String {
         match call {
             Call::PokeRow { number, value } => self.record.poke_row(*number, value),
+            Call::PokeEntry { day, period, value } => {
+                self.record.schedule.poke(*day, *period, value);
+            }
             Call::PokeId(id) => self.record.poke_id(id),
             Call::PokePassword(password) => self.record.poke_password(password),
             Call::PokeMode(mode) => self.record.mode = *mode,
@@ -153,12 +157,15 @@ fn show(record: &Record) -> String {
         hex::field(&record.password),
         record.mode
     );
-    record
+    let rows = record
         .values
         .iter()
-        .fold(identity, |text, (number, value)| {
-            text + &format!(" {number:04X}={}", hex::field(value))
-        })
+        .map(|(number, value)| format!(" {number:04X}={}", hex::field(value)));
+    let entries = record.schedule.entries().map(|(day, period, entry)| {
+        let number = schedule::NUMBER;
+        format!(" {number:04X}:{day}.{period}={}", hex::field(entry))
+    });
+    identity + &rows.chain(entries).collect::<String>()
 }
 
 /// Replays a whole list, line by line.
@@ -211,11 +218,10 @@ mod tests {
         assert!(first.starts_with(
             "record id=00000000000000000000000000000000 password=- mode=1 0001=00 0002=01 0003=03 "
         ));
-        assert!(
-            first.ends_with(
-                " 00B9=0200 00F0=00 0111=0000 0112=000000000000 0400=00 0401=00 0402=00\n"
-            )
-        );
+        assert!(first.contains(
+            " 00B9=0200 00F0=00 0111=0000 0112=000000000000 0400=00 0401=00 0402=00 0077:1.1="
+        ));
+        assert!(first.ends_with(" 0077:7.2=00000000 0077:7.3=00000000 0077:7.4=00000000\n"));
         let refused = run("setup 00 - 1\nrecord\n");
         assert_eq!(refused, format!("refused 20\n{first}"));
     }
@@ -238,6 +244,20 @@ mod tests {
         assert!(lines[4].contains(" password=2A mode=7 "));
         assert!(lines[4].contains(" 0095=- ") && lines[4].contains(" 0063=FF00 "));
         assert_eq!(lines[5..], ["refused 70", "refused 70"]);
+    }
+
+    #[test]
+    fn the_28_entries_are_shown_behind_the_rows() {
+        let mut list = String::new();
+        let mut expected = String::new();
+        for (day, period) in (1..=7).flat_map(|day| (1..=4).map(move |period| (day, period))) {
+            list += &format!("poke 0077:{day}.{period} 0{day}0{period}FF0099\n");
+            expected += &format!(" 0077:{day}.{period}=0{day}0{period}FF00");
+        }
+        let lines = run(&format!("{list}poke 0077 05\nrecord\n"));
+        let (pokes, shown) = lines.rsplit_once("poked\n").unwrap();
+        assert_eq!(pokes, "poked\n".repeat(28));
+        assert!(shown.ends_with(&format!(" 0402=00{expected}\n")), "{shown}");
     }
 
     #[test]
