@@ -164,17 +164,6 @@ impl fmt::Display for Call {
                 write!(output, "measure {number:04X} {}", hex::field(value))
             }
             Call::Record => write!(output, "record"),
-            Call::PokeRow { number, value } => {
-                write!(output, "poke {number:04X} {}", hex::field(value))
-            }
-            Call::PokeEntry { day, period, value } => {
-                let number = schedule::NUMBER;
-                let value = hex::field(value);
-                write!(output, "poke {number:04X}:{day}.{period} {value}")
-            }
-            Call::PokeId(id) => write!(output, "poke id {}", hex::field(id)),
-            Call::PokePassword(word) => write!(output, "poke password {}", hex::field(word)),
-            Call::PokeMode(mode) => write!(output, "poke mode {mode}"),
             Call::Write {
                 length,
                 id,
@@ -197,8 +186,24 @@ impl fmt::Display for Call {
                 hex::field(packet)
             ),
             Call::List { packet } => write!(output, "list {}", hex::field(packet)),
+            poke => write_poke(output, poke),
         }
     }
+}
+
+fn write_poke(output: &mut fmt::Formatter, call: &Call) -> fmt::Result {
+    let (place, value) = match call {
+        Call::PokeRow { number, value } => (format!("{number:04X}"), hex::field(value)),
+        Call::PokeEntry { day, period, value } => {
+            let number = schedule::NUMBER;
+            (format!("{number:04X}:{day}.{period}"), hex::field(value))
+        }
+        Call::PokeId(id) => ("id".to_string(), hex::field(id)),
+        Call::PokePassword(password) => ("password".to_string(), hex::field(password)),
+        Call::PokeMode(mode) => ("mode".to_string(), mode.to_string()),
+        _ => unreachable!("only pokes come here"),
+    };
+    write!(output, "poke {place} {value}")
 }
 
 fn identity(id: &[u8], password: &[u8]) -> String {

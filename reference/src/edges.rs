@@ -8,6 +8,7 @@ mod framing;
 mod lines;
 mod records;
 mod rows;
+mod schedule;
 mod senders;
 mod tool;
 
@@ -58,6 +59,7 @@ pub fn list() -> Vec<Entry> {
     commands::add(&mut edges);
     rows::add(&mut edges);
     records::add(&mut edges);
+    schedule::add(&mut edges);
     tool::add(&mut edges);
     lines::add(&mut edges);
     edges.entries

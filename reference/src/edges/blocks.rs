@@ -167,13 +167,19 @@ fn responses(edges: &mut Edges) {
         edges.line(format!("list {response}"), "refused,10");
     }
     for (data, reports) in RESPONSES {
-        let response = framed(&ID, PASSWORD, 6, data);
-        let (mut read, mut listing) = ("reports".to_string(), "number,value".to_string());
-        for report in reports.split_whitespace() {
-            read += &format!(" {report}");
-            listing += &format!("|0x{}", report.replace('=', ","));
-        }
-        edges.line(format!("read {id} 31313131 {response}"), read);
-        edges.line(format!("list {response}"), listing);
+        read_and_list(edges, data, reports);
     }
+}
+
+/// Reads and lists a response with these reports.
+pub fn read_and_list(edges: &mut Edges, data: &str, reports: &str) {
+    let response = framed(&ID, PASSWORD, 6, data);
+    let (mut read, mut listing) = ("reports".to_string(), "number,value".to_string());
+    for report in reports.split_whitespace() {
+        read += &format!(" {report}");
+        listing += &format!("|0x{}", report.replace('=', ","));
+    }
+    let id = hex::field(&ID);
+    edges.line(format!("read {id} 31313131 {response}"), read);
+    edges.line(format!("list {response}"), listing);
 }

@@ -156,7 +156,7 @@ fn poked_texts(edges: &mut Edges) {
 }
 
 /// The same calls on a record that 70 refuses: each is answered 70, before every other number.
-fn meet(edges: &mut Edges) {
+pub fn meet(edges: &mut Edges) {
     let read = framed(&ID, PASSWORD, 1, "01");
     let search = framed(&CODE_WORD, b"", 1, "7C");
     edges.line(format!("packet 256 {read}"), "refused 70");

@@ -17,7 +17,7 @@ pub fn add(edges: &mut Edges) {
 }
 
 /// A packet with any ID and password.
-fn send(edges: &mut Edges, id: &[u8], password: &[u8], function: u8, data: &str, answer: &str) {
+pub fn send(edges: &mut Edges, id: &[u8], password: &[u8], function: u8, data: &str, answer: &str) {
     let request = framed(id, password, function, data);
     edges.line(format!("packet 256 {request}"), answer);
 }

@@ -50,15 +50,11 @@ fn shortest_form(edges: &mut Edges) {
     edges.rule(
         "Writer: FUNC of the first command, 1 for none; FF, FC and FE only where needed, FC first",
     );
-    let id = hex::field(&ID);
     for (commands, function, data) in SHORTEST_FORMS {
-        let request = framed(&ID, PASSWORD, function, data);
-        edges.line(
-            format!("write 256 {id} 31313131{commands}"),
-            format!("packet {request}"),
-        );
+        written(edges, commands, function, data);
     }
     edges.rule("Writer: the rest of a longer buffer stays");
+    let id = hex::field(&ID);
     for length in [256, 257, 1024] {
         let request = framed(&ID, b"", 1, "01");
         edges.line(
@@ -66,6 +62,15 @@ fn shortest_form(edges: &mut Edges) {
             format!("packet {request}"),
         );
     }
+}
+
+/// Writes commands, which come out as FUNC and this block.
+pub fn written(edges: &mut Edges, commands: &str, function: u8, data: &str) {
+    let request = framed(&ID, PASSWORD, function, data);
+    edges.line(
+        format!("write 256 {} 31313131{commands}", hex::field(&ID)),
+        format!("packet {request}"),
+    );
 }
 
 fn write_order(edges: &mut Edges) {
