@@ -142,7 +142,7 @@ fn difference(program: &Path, lines: &[String], tally: &mut Tally) -> Result<(),
                 failed: false,
             });
         }
-        tally.add(line, &expected);
+        tally.add(line, &expected, &session.record);
     }
     match answers.next() {
         None => Ok(()),

@@ -6,6 +6,7 @@ mod identities;
 mod lines;
 mod packets;
 mod poke_calls;
+mod schedule;
 mod tool_calls;
 mod values;
 
@@ -26,8 +27,8 @@ struct Generator {
 type Scenario = fn(&mut Generator);
 
 /// How often each scenario comes, in parts of their sum.
-const SCENARIOS: [(usize, Scenario); 20] = [
-    (4, Generator::set_up),
+const SCENARIOS: [(usize, Scenario); 22] = [
+    (5, Generator::set_up),
     (24, Generator::rightful_traffic),
     (8, Generator::one_row),
     (8, Generator::search),
@@ -41,10 +42,12 @@ const SCENARIOS: [(usize, Scenario); 20] = [
     (6, Generator::measurement),
     (4, Generator::poke_row),
     (2, Generator::poke_identity),
+    (14, Generator::schedule_traffic),
+    (4, Generator::poke_entry),
     (7, Generator::tool_to_board),
-    (4, Generator::faulty_write),
+    (5, Generator::faulty_write),
     (2, Generator::full_write),
-    (7, Generator::handmade_response),
+    (8, Generator::handmade_response),
     (3, Generator::bad_line),
     (3, Generator::show_record),
 ];

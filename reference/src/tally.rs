@@ -1,8 +1,11 @@
 //! How often each answer came, call by call, and which ones never did.
 
+mod schedule;
+
 use std::collections::BTreeMap;
 
 use crate::packet::LONGEST;
+use crate::record::Record;
 use crate::replay::BAD_LINE;
 
 /// What a comparison has to meet: each call with its refusals and its other answers.
@@ -33,14 +36,18 @@ pub struct Tally {
 }
 
 impl Tally {
-    pub fn add(&mut self, line: &str, answer: &str) {
+    /// Counts an answer; the record is the one after the call.
+    pub fn add(&mut self, line: &str, answer: &str, record: &Record) {
         let name = name(line, answer);
         let full_length = |word: &str| word.len() == 2 * LONGEST;
         if answer.split(' ').nth(1).is_some_and(full_length) && !name.starts_with("read") {
             let full = format!("{name} of {LONGEST} bytes");
             *self.counts.entry(full).or_default() += 1;
         }
-        *self.counts.entry(name).or_default() += 1;
+        let names = schedule::met(line, answer, record);
+        for name in names.into_iter().chain([name]) {
+            *self.counts.entry(name).or_default() += 1;
+        }
     }
 
     /// One line for each expected answer, with its count.
@@ -61,13 +68,14 @@ impl Tally {
 }
 
 fn expected() -> impl Iterator<Item = String> {
-    EXPECTED.iter().flat_map(|(call, refusals, answers)| {
+    let calls = EXPECTED.iter().flat_map(|(call, refusals, answers)| {
         let answers = answers.iter().map(move |answer| format!("{call} {answer}"));
         let refusals = refusals
             .iter()
             .map(move |number| format!("{call} refused {number}"));
         answers.chain(refusals)
-    })
+    });
+    calls.chain(schedule::expected())
 }
 
 /// Call and answer in words.
@@ -113,8 +121,10 @@ mod tests {
     #[test]
     fn full_lengths_are_counted_apart() {
         let mut tally = Tally::default();
-        tally.add("packet 256 00", &format!("response {}", "00".repeat(256)));
-        tally.add("packet 256 00", &format!("response {}", "00".repeat(255)));
+        for length in [256, 255] {
+            let answer = format!("response {}", "00".repeat(length));
+            tally.add("packet 256 00", &answer, &Record::refused());
+        }
         assert_eq!(tally.count("packet response"), 2);
         assert_eq!(tally.count("packet response of 256 bytes"), 1);
         assert!(tally.missing().contains(&"packet silence".to_string()));
@@ -127,7 +137,7 @@ mod tests {
         let mut session = Session::new();
         for line in generate::list(1, 20_000) {
             if let Some(answer) = session.line(line.as_bytes()) {
-                tally.add(&line, &answer);
+                tally.add(&line, &answer, &session.record);
             }
         }
         for name in expected() {

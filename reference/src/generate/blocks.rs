@@ -1,23 +1,29 @@
 //! Data blocks of requests and responses, in shortest and in loose form, well formed or not.
 
-use super::values;
+use super::{schedule, values};
 use crate::block::{self, CHANGE_FUNCTION, CHANGE_PAGE, CHANGE_SIZE, Command, Report, UNKNOWN};
 use crate::random::Random;
+use crate::schedule::NUMBER;
 
 /// A command with a value that its function calls for, rarely one that it ignores.
 pub fn command(random: &mut Random, function: u8) -> Command {
     let number = values::number(random);
     let carries = matches!(function, 2 | 3) || random.chance(8);
-    let value = if carries {
-        values::value(random, number)
-    } else {
-        Vec::new()
+    let value = match number {
+        _ if is_like_schedule(number) => schedule::value(random, function),
+        _ if carries => values::value(random, number),
+        _ => Vec::new(),
     };
     Command {
         function,
         number,
         value,
     }
+}
+
+/// Whether the low byte is that of 0077, on whatever page.
+fn is_like_schedule(number: u16) -> bool {
+    number % 0x0100 == NUMBER
 }
 
 /// Commands whose function changes now and then.

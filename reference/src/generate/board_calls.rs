@@ -16,7 +16,7 @@ fn room(password: &[u8]) -> usize {
 impl Generator {
     /// A set-up, mostly a legal one; each field may be illegal by itself.
     pub fn set_up(&mut self) {
-        let chance = self.random.pick(&[0, 0, 25]);
+        let chance = self.random.pick(&[0, 0, 30]);
         let random = &mut self.random;
         let id = match random.chance(chance) {
             true => identities::illegal_id(random),
@@ -47,7 +47,7 @@ impl Generator {
     }
 
     /// An ID that the board takes from a rightful sender.
-    fn rightful_id(&mut self) -> Vec<u8> {
+    pub fn rightful_id(&mut self) -> Vec<u8> {
         if self.session.record.mode == ACCESS_POINT && self.random.chance(40) {
             CODE_WORD.to_vec()
         } else {
@@ -127,13 +127,14 @@ impl Generator {
         let mut data = Vec::new();
         for _ in 0..self.random.between(0, 8) {
             let any = values::number(&mut self.random).to_be_bytes()[1];
-            let item = match self.random.between(0, 11) {
+            let item = match self.random.between(0, 12) {
                 0..=3 => vec![0x7C],
                 4..=6 => vec![0xB9],
                 7 => vec![any],
                 8 => vec![0xFE, 2, any, 0xFC, 3],
                 9 => vec![0xFF, self.random.pick(&[0, 0, 1])],
                 10 => vec![0xFC, 1],
+                11 => self.entry_read(),
                 _ => vec![0xFE, 1, 0x7C, self.random.byte()],
             };
             data.extend_from_slice(&item);
@@ -144,9 +145,14 @@ impl Generator {
     /// A sender with a wrong password or a wrong ID, the rest mostly well formed.
     pub fn stranger(&mut self) {
         let (own_id, own_password) = (self.rightful_id(), self.password());
+        let entry_write = self.entry_write();
         let random = &mut self.random;
-        let function = random.between(1, 5) as u8;
+        let mut function = random.between(1, 5) as u8;
         let mut data = blocks::request(random, function, 200);
+        if random.chance(20) {
+            function = random.pick(&[2, 3]);
+            data = entry_write;
+        }
         if random.chance(25) {
             blocks::spoil_request(random, &mut data);
         }
@@ -214,8 +220,18 @@ impl Generator {
         let over = self.random.pick(&[0, 0, 1, 1, 2, 20]);
         let under = self.random.pick(&[0, 0, 0, 1, 2]);
         let target = room(&password) + over - under;
-        let row = self.random.pick(&[0x01, 0x07, 0x14, 0x72]);
-        let mut data = vec![row, 2, 0xFC, self.random.pick(&[1, 1, 4, 5])];
+        let mut data = match self.random.chance(40) {
+            true => self.entry_write(),
+            false => vec![self.random.pick(&[0x01, 0x07, 0x14, 0x72]), 2],
+        };
+        let function = self.random.pick(&[1, 1, 4, 5]);
+        data.extend_from_slice(&[0xFC, function]);
+        let mut target = target;
+        // An entry's report has nine bytes.
+        for _ in 0..self.random.pick(&[0, 1, 3, 14]) * usize::from(function == 1) {
+            data.extend(self.entry_read());
+            target -= 9;
+        }
         data.extend(self.reads_with_response_of(target));
         let packet = packet::write(&id, &password, 2, &data);
         let response = self.send_with(256, &packet);
@@ -284,7 +300,9 @@ impl Generator {
             .collect();
         let row = self.random.pick(&measured);
         let any = values::number(&mut self.random);
-        let number = self.random.pick(&[row, row, row, any, 0x007C, 0x00B9]);
+        let number = self
+            .random
+            .pick(&[row, row, row, any, 0x007C, 0x00B9, 0x0077]);
         let size = rows::find(number).map_or(1, |row| row.room());
         let length = match self.random.chance(75) {
             true => size,

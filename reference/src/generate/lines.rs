@@ -6,7 +6,7 @@ use crate::call::Call;
 use crate::hex;
 
 /// Lines that have none of the forms.
-const BAD_LINES: [&str; 34] = [
+const BAD_LINES: [&str; 44] = [
     " ",
     "-",
     "Record",
@@ -36,6 +36,16 @@ const BAD_LINES: [&str; 34] = [
     "poke mode 18446744073709551617",
     "poke modes 1",
     "poke 00001 00",
+    "poke 0077:0.1 00",
+    "poke 0077:8.1 00",
+    "poke 0077:1.0 00",
+    "poke 0077:1.5 00",
+    "poke 0077:1 00",
+    "poke 0077:11.1 00",
+    "poke 0077:1.1: 00",
+    "poke 0077:1.1",
+    "poke 0078:1.1 00",
+    "poke 0177:1.1 00",
     "write 256 - - 1:0001",
     "write 256 - - 1:0001:- ",
     "write 256 - - 300:0001:-",

@@ -79,7 +79,7 @@ impl Generator {
     }
 
     /// One to three calls on the record as it now is.
-    fn meet_the_record(&mut self) {
+    pub fn meet_the_record(&mut self) {
         for _ in 0..self.random.between(1, 3) {
             match self.random.between(0, 5) {
                 0 | 1 => {

@@ -1,14 +1,16 @@
 //! Values for rows: legal ones, those at the edges of each set, and those of a wrong length.
 
+use super::schedule;
 use crate::random::Random;
 use crate::rows::{self, Row, Values};
+use crate::schedule::NUMBER;
 
-/// A number: mostly of a row, else unknown or anything.
+/// A number: mostly of a row, else that of the schedule, unknown or anything.
 pub fn number(random: &mut Random) -> u16 {
     let rows: Vec<u16> = rows::all().keys().copied().collect();
     let row = random.pick(&rows);
     let unknown = random.pick(&[
-        0x0000, 0x0004, 0x0005, 0x0010, 0x0024, 0x0025, 0x0038, 0x0044, 0x0048, 0x0065, 0x0077,
+        0x0000, 0x0004, 0x0005, 0x0010, 0x0024, 0x0025, 0x0038, 0x0044, 0x0048, 0x0065, 0x0177,
         0x007D, 0x007E, 0x007F, 0x0080, 0x0081, 0x0083, 0x0085, 0x0087, 0x00A0, 0x00A2, 0x00FB,
         0x0101, 0x0102, 0x0104, 0x017C, 0x01B9, 0x0240, 0x0403, 0x0406, 0x047C, 0x7C00, 0xFF01,
     ]);
@@ -16,10 +18,11 @@ pub fn number(random: &mut Random) -> u16 {
     let page = random.byte();
     let page = random.pick(&[0, 1, 2, 4, 8, 16, 32, 64, 128, page]);
     let other_page = u16::from_be_bytes([page, row as u8]);
-    match random.between(0, 39) {
+    match random.between(0, 41) {
         0..=31 => row,
         32..=36 => unknown,
         37 | 38 => other_page,
+        39 | 40 => NUMBER,
         _ => any,
     }
 }
@@ -27,6 +30,7 @@ pub fn number(random: &mut Random) -> u16 {
 /// A value for a number, 1 to 255 bytes: mostly legal or close to it.
 pub fn value(random: &mut Random, number: u16) -> Vec<u8> {
     let mut value = match rows::find(number) {
+        None if number == NUMBER => schedule::write(random),
         None => {
             let length = random.pick(&[1, 1, 1, 2, 4, 6]);
             random.bytes(length)
