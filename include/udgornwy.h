@@ -21,13 +21,22 @@ enum {
     UDGORNWY_PORT = 4000,           /* the board's UDP port */
     UDGORNWY_ID = 16,               /* bytes of an ID */
     UDGORNWY_PASSWORD = 8,          /* bytes of the longest password */
-    UDGORNWY_STORE = 227,           /* bytes of the parameters' values */
+    UDGORNWY_STORE = 227,           /* bytes of the rows' values */
+    UDGORNWY_DAYS = 7,              /* of the weekly schedule, Monday first */
+    UDGORNWY_PERIODS = 4,           /* of a day */
     UDGORNWY_SHORTEST_PACKET = 24,
     UDGORNWY_LONGEST_PACKET = 256,  /* also the room that a response and a request need */
     UDGORNWY_LONGEST_LISTING = 1753,
     UDGORNWY_CLIENT = 1,            /* the modes */
     UDGORNWY_ACCESS_POINT = 2
 };
+
+/* A period of the weekly schedule, as parameter 0x0077 has it behind its day and its period. */
+typedef struct {
+    uint8_t speed;        /* 1 to 5, 0 standby */
+    uint8_t temperature;  /* 15 to 30 whole degrees, 0 ventilation only */
+    uint8_t minute, hour; /* when the period ends */
+} udgornwy_entry;
 
 /*
  * A board's record. It is made by udgornwy_set_up and changed by udgornwy_packet and udgornwy_measure. It may be copied byte for byte, also
@@ -39,6 +48,7 @@ typedef struct {
     uint8_t size;
     uint8_t mode;                        /* the mode in force */
     uint8_t store[UDGORNWY_STORE];
+    udgornwy_entry schedule[UDGORNWY_DAYS][UDGORNWY_PERIODS];
 } udgornwy_board;
 
 /* What set-up and a measurement answer: keep the board also where they are refused. */
@@ -53,13 +63,15 @@ typedef struct {
     size_t length;    /* bytes written to the buffer's start, the rest stays; 0 where refused */
 } udgornwy_reply;
 
-_Static_assert(sizeof(udgornwy_board) == 253, "the record has 253 bytes");
+_Static_assert(sizeof(udgornwy_entry) == 4, "an entry has four bytes");
+_Static_assert(sizeof(udgornwy_board) == 365, "the record has 365 bytes");
 _Static_assert(offsetof(udgornwy_board, password) == 16, "the password follows the ID");
 _Static_assert(offsetof(udgornwy_board, size) == 24, "the password's size follows its bytes");
 _Static_assert(offsetof(udgornwy_board, mode) == 25, "the mode follows the password's size");
 _Static_assert(offsetof(udgornwy_board, store) == 26, "the values follow the mode");
-_Static_assert(sizeof(udgornwy_kept) == 256, "the record and the refusal have 256 bytes");
-_Static_assert(offsetof(udgornwy_kept, refusal) == 254, "the refusal stands at an even place behind the record");
+_Static_assert(offsetof(udgornwy_board, schedule) == 253, "the schedule follows the values");
+_Static_assert(sizeof(udgornwy_kept) == 368, "the record and the refusal have 368 bytes");
+_Static_assert(offsetof(udgornwy_kept, refusal) == 366, "the refusal stands at an even place behind the record");
 _Static_assert(sizeof(udgornwy_reply) == 2 * sizeof(size_t), "the refusal takes the room of a length");
 _Static_assert(offsetof(udgornwy_reply, length) == sizeof(size_t), "the length follows the refusal");
 
@@ -111,6 +123,7 @@ udgornwy_kept udgornwy_measure(udgornwy_board board, uint16_t number, const uint
 /*
  * Writes the request packet of a list of commands. Command i has function functions[i] (1 read, 2 write, 3 write and report, 4 raise,
  * 5 lower), parameter numbers[i] and a value of lengths[i] bytes; the values stand one behind the other. The three counts are the same.
+ * A read of the weekly schedule, 0x0077, has a value: a day (1 to 7) and a period (1 to 4).
  * buffer needs 256 bytes. The ID may be DEFAULT_DEVICEID.
  * Refusals:
  *    1  buffer under 256 bytes

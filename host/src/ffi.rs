@@ -18,9 +18,11 @@ pub struct Board {
     size: u8,
     mode: u8,
     store: [u8; 227],
+    /// Days and then periods, four bytes each.
+    schedule: [[u8; 4]; 28],
 }
 
-const _: () = assert!(std::mem::size_of::<Board>() == 253);
+const _: () = assert!(std::mem::size_of::<Board>() == 365);
 
 /// The board to keep, and the number of the refusal, 0 where there is none.
 #[repr(C)]
