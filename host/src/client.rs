@@ -1,15 +1,15 @@
-//! One request, and its response as a listing.
+//! A request on its way to a board, and its response as a listing.
 
 use std::fs;
 use std::io::{self, Write};
 use std::net::SocketAddr;
-use std::path::{Path, PathBuf};
+use std::path::PathBuf;
 use std::time::Duration;
 
 use crate::dump::dump;
 use crate::exchange::{Exchange, Response};
 use crate::ffi::{self, Command};
-use crate::target;
+use crate::target::{self, Target};
 
 #[derive(Debug)]
 pub struct Request {
@@ -24,15 +24,38 @@ pub struct Request {
     pub raw: Option<PathBuf>,
 }
 
+/// The whole request in one packet.
 pub fn run(request: &Request) -> Result<(), String> {
-    let packet = ffi::write(&request.id, &request.password, &request.commands)
-        .map_err(|refusal| format!("the request is {refusal}"))?;
+    let packet = write(request, &request.commands)?;
+    let target = find(request)?;
+    let responses = send(request, target, &packet)?;
+    for response in &responses {
+        if target.every {
+            let _ = writeln!(io::stderr(), "response from {}", response.sender);
+        }
+        show(&listing(response)?)?;
+    }
+    keep(request, &responses)
+}
+
+/// The packet of some of the commands.
+pub fn write(request: &Request, commands: &[Command]) -> Result<Vec<u8>, String> {
+    let packet = ffi::write(&request.id, &request.password, commands);
+    packet.map_err(|refusal| format!("the request is {refusal}"))
+}
+
+pub fn find(request: &Request) -> Result<Target, String> {
     let target = target::resolve(&request.host)?;
     if target.every && request.raw.is_some() {
         return Err(String::from(
             "--raw keeps one response, so it needs one host",
         ));
     }
+    Ok(target)
+}
+
+/// The responses to a packet.
+pub fn send(request: &Request, target: Target, packet: &[u8]) -> Result<Vec<Response>, String> {
     let exchange = Exchange {
         target,
         id: &request.id,
@@ -40,33 +63,33 @@ pub fn run(request: &Request) -> Result<(), String> {
         limit: request.limit,
         retries: request.retries,
     };
-    let responses = exchange.run(&packet, |what, address, bytes| {
+    exchange.run(packet, |what, address, bytes| {
         if request.dump {
             show_packet(what, address, bytes);
         }
-    })?;
-    for response in &responses {
-        if target.every {
-            let _ = writeln!(io::stderr(), "response from {}", response.sender);
-        }
-        show(response)?;
-    }
-    match (&request.raw, responses.first()) {
-        (Some(path), Some(response)) => keep(path, response),
-        _ => Ok(()),
-    }
+    })
 }
 
-/// The listing, on standard output.
-fn show(response: &Response) -> Result<(), String> {
-    let listing =
-        ffi::list(&response.bytes).map_err(|refusal| format!("the listing is {refusal}"))?;
+pub fn listing(response: &Response) -> Result<String, String> {
+    let listing = ffi::list(&response.bytes);
+    let listing = listing.map_err(|refusal| format!("the listing is {refusal}"))?;
+    Ok(String::from_utf8_lossy(&listing).into_owned())
+}
+
+/// On standard output.
+pub fn show(text: &str) -> Result<(), String> {
     let mut output = io::stdout().lock();
-    let written = output.write_all(&listing).and_then(|()| output.flush());
+    let written = output
+        .write_all(text.as_bytes())
+        .and_then(|()| output.flush());
     written.map_err(|error| format!("cannot write the listing: {error}"))
 }
 
-fn keep(path: &Path, response: &Response) -> Result<(), String> {
+/// Keeps the response's bytes where the request wants them.
+pub fn keep(request: &Request, responses: &[Response]) -> Result<(), String> {
+    let (Some(path), Some(response)) = (&request.raw, responses.first()) else {
+        return Ok(());
+    };
     let kept = fs::write(path, &response.bytes);
     kept.map_err(|error| format!("cannot keep the response in {}: {error}", path.display()))
 }
