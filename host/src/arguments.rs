@@ -5,10 +5,12 @@ use std::path::PathBuf;
 use std::time::Duration;
 
 use crate::client::Request;
+use crate::entry::{self, Entry};
 use crate::ffi::{Command, DEFAULT_ID, ID_SIZE};
 use crate::hex;
 use crate::options::{Form, Options};
 use crate::rows;
+use crate::schedule;
 use crate::server::Settings;
 use crate::values;
 
@@ -18,6 +20,7 @@ pub enum Task {
     Rows,
     Board(Settings),
     Request(Request),
+    Schedule(Request),
 }
 
 const BOARD: Form = Form {
@@ -67,6 +70,7 @@ pub fn parse(arguments: &[String]) -> Result<Task, String> {
         "set" => parse_request(rest, NO_RETRIES, command_with_value),
         "raise" => parse_request(rest, NO_RETRIES, |word| command_without_value(4, word)),
         "lower" => parse_request(rest, NO_RETRIES, |word| command_without_value(5, word)),
+        "schedule" => parse_schedule(rest),
         "search" => parse_search(rest),
         _ => Err(format!("there is no command `{command}`")),
     }
@@ -107,16 +111,56 @@ fn parse_request(
         return Err(String::from("there is no row"));
     }
     let commands = options.words.iter().map(|word| command(word));
-    Ok(Task::Request(Request {
+    let commands = commands.collect::<Result<_, _>>()?;
+    Ok(Task::Request(request(&options, commands, retries)?))
+}
+
+fn parse_schedule(arguments: &[String]) -> Result<Task, String> {
+    let options = Options::parse(arguments, &REQUEST)?;
+    let words: Vec<&str> = options.words.iter().map(String::as_str).collect();
+    let (commands, retries) = match words[..] {
+        ["get", ref words @ ..] => (reads(words)?, RETRIES),
+        ["set", ref words @ ..] => (vec![entry_write(words)?], NO_RETRIES),
+        _ => return Err(String::from("schedule takes get or set")),
+    };
+    let request = request(&options, commands, retries)?;
+    if words.len() == 1 && request.raw.is_some() {
+        return Err(String::from(
+            "--raw keeps one response, and the week has more: name a day",
+        ));
+    }
+    Ok(Task::Schedule(request))
+}
+
+fn reads(words: &[&str]) -> Result<Vec<Command>, String> {
+    let places = entry::parse_places(words)?;
+    Ok(places.into_iter().map(schedule::read_of).collect())
+}
+
+fn entry_write(words: &[&str]) -> Result<Command, String> {
+    match *words {
+        [day, period, speed, temperature, end] => {
+            let entry = Entry::parse([day, period, speed, temperature, end])?;
+            Ok(schedule::write_of(&entry))
+        }
+        _ => Err(String::from(
+            "schedule set takes DAY PERIOD SPEED TEMPERATURE HH:MM",
+        )),
+    }
+}
+
+/// A request that names its board.
+fn request(options: &Options, commands: Vec<Command>, retries: u32) -> Result<Request, String> {
+    Ok(Request {
         host: options.needed("--host")?.to_string(),
         id: parse_id(options.needed("--id")?)?,
         password: options.needed("--password")?.as_bytes().to_vec(),
-        commands: commands.collect::<Result<_, _>>()?,
+        commands,
         limit: parse_limit(options.value("-t")?)?,
         retries: parse_retries(options.value("-r")?, retries)?,
         dump: options.has("-d"),
         raw: options.value("--raw")?.map(PathBuf::from),
-    }))
+    })
 }
 
 /// A search asks every board for its ID and its unit type. Its password is not compared, so it has none.
@@ -147,9 +191,13 @@ fn unwanted(word: &str) -> String {
 }
 
 fn command_without_value(function: u8, word: &str) -> Result<Command, String> {
+    let number = rows::parse_number(word)?;
+    if number == entry::NUMBER {
+        return Err(String::from(entry::HINT));
+    }
     Ok(Command {
         function,
-        number: rows::parse_number(word)?,
+        number,
         value: Vec::new(),
     })
 }
@@ -246,6 +294,72 @@ mod tests {
             (3, &[70, 0][..])
         );
         assert_eq!((set.retries, set.limit), (2, Duration::from_millis(500)));
+    }
+
+    fn schedule(text: &str) -> Request {
+        match parsed(&format!("schedule {IDENTITY} {text}")) {
+            Ok(Task::Schedule(request)) => request,
+            other => panic!("{text}: {other:?}"),
+        }
+    }
+
+    #[test]
+    fn a_schedule_is_read_by_places_and_written_by_entries() {
+        for (text, first, count) in [
+            ("get", [1, 1], 28),
+            ("get tue", [2, 1], 4),
+            ("get sunday 4", [7, 4], 1),
+        ] {
+            let request = schedule(text);
+            let command = &request.commands[0];
+            assert_eq!((command.function, command.number), (1, 0x0077));
+            assert_eq!(
+                (&command.value[..], request.commands.len()),
+                (&first[..], count)
+            );
+            assert_eq!(request.retries, RETRIES);
+        }
+        let set = schedule("set weekend 2 5 21 22:30");
+        let command = Command {
+            function: 3,
+            number: 0x0077,
+            value: vec![9, 2, 5, 21, 30, 22],
+        };
+        assert_eq!((set.commands, set.retries), (vec![command], NO_RETRIES));
+    }
+
+    #[test]
+    fn schedules_that_are_none() {
+        for bad in [
+            "",
+            "monday",
+            "raise monday 1",
+            "get weekdays",
+            "get monday 5",
+            "get monday 1 1",
+            "get --raw file",
+            "set",
+            "set monday 1 3 21",
+            "set monday 1 3 21 08:30 more",
+            "set monday 1 3 31 08:30",
+        ] {
+            assert!(
+                parsed(&format!("schedule {IDENTITY} {bad}")).is_err(),
+                "{bad}"
+            );
+        }
+        assert!(parsed("schedule get monday").is_err());
+        assert!(schedule("get --raw file monday").raw.is_some());
+        for command in [
+            "get 0x0077",
+            "raise schedule-setup",
+            "lower 0077",
+            "set 0x0077=1",
+        ] {
+            let (command, row) = command.split_once(' ').expect("a row");
+            let error = parsed(&format!("{command} {IDENTITY} {row}")).expect_err(row);
+            assert_eq!(error, entry::HINT, "{command}");
+        }
     }
 
     #[test]

@@ -5,7 +5,7 @@ use std::io::{self, Write};
 use std::process::ExitCode;
 
 use crate::arguments::{self, Task};
-use crate::{client, rows, server, signals};
+use crate::{client, rows, schedule, server, signals};
 
 const HELP: &str = include_str!("help.txt");
 
@@ -36,6 +36,7 @@ fn perform(task: &Task) -> Result<(), String> {
         Task::Help => print(HELP),
         Task::Rows => print(&rows::table()),
         Task::Request(request) => client::run(request),
+        Task::Schedule(request) => schedule::run(request),
         Task::Board(settings) => {
             signals::catch();
             server::run(settings, signals::came)

@@ -3,6 +3,7 @@
 use crate::refusal::Refusal;
 
 pub const ID_SIZE: usize = 16;
+pub const SHORTEST_PACKET: usize = 24;
 pub const LONGEST_PACKET: usize = 256;
 pub const LONGEST_LISTING: usize = 1753;
 

@@ -1,4 +1,5 @@
-//! The rows that exist, with the names that the command line takes. A name is the guide's wording, shortened where it is long.
+//! The rows that exist, and the weekly schedule (0x0077), with the names that the command line takes. A name is the guide's wording,
+//! shortened where it is long.
 //!
 //! Only the client reads this table, for names and for the size of a decimal value; the board has its own.
 
@@ -30,7 +31,7 @@ const fn row(number: u16, name: &'static str, size: Size, wording: &'static str)
 
 /// Numbers ascending. The guide calls 0x0037 "Minimum fan speed" as it does 0x0036; it is the maximum, and so named.
 #[rustfmt::skip]
-pub const ROWS: [Row; 72] = [
+pub const ROWS: [Row; 73] = [
     row(0x0001, "unit-on-off", Bytes(1), "Unit On/Off"),
     row(0x0002, "speed-mode", Bytes(1), "Speed mode"),
     row(0x0003, "maximum-speed-number", Bytes(1), "Maximum speed number"),
@@ -79,6 +80,7 @@ pub const ROWS: [Row; 72] = [
     row(0x0072, "weekly-schedule-mode", Bytes(1), "Weekly schedule mode"),
     row(0x0073, "weekly-schedule-speed", Bytes(1), "Weekly schedule speed"),
     row(0x0074, "weekly-schedule-temperature", Bytes(1), "Weekly schedule temperature setup"),
+    row(0x0077, "schedule-setup", Bytes(6), "Schedule setup"),
     row(0x007C, "device-search", Bytes(16), "Device search on the local Ethernet network"),
     row(0x0086, "controller-firmware", Bytes(6), "Controller base firmware version and date"),
     row(0x0088, "filter-condition", Bytes(1), "Filter condition"),

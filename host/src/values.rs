@@ -1,5 +1,6 @@
 //! Values as the command line takes them.
 
+use crate::entry;
 use crate::hex;
 use crate::rows::{self, Size};
 
@@ -32,6 +33,9 @@ fn parse_value(number: u16, text: &str) -> Result<Vec<u8>, String> {
     }
     if let Some(characters) = text.strip_prefix("text:") {
         return sized(characters.as_bytes().to_vec());
+    }
+    if number == entry::NUMBER {
+        return Err(String::from(entry::HINT));
     }
     parse_decimal(number, text)
 }
