@@ -163,6 +163,54 @@ fn requests_sent_in_one_go_are_answered_in_order() {
     }
 }
 
+/// Each block is answered with these reports.
+fn schedule_answers(client: &Client, function: u8, cases: &[(&[u8], &[u8])]) {
+    for (data, reports) in cases {
+        let answer = client.ask(&request(ID.as_bytes(), PASSWORD, function, data));
+        assert_eq!(answer, response(ID.as_bytes(), PASSWORD, reports));
+    }
+}
+
+#[test]
+fn the_schedule_is_written_by_groups_and_read_by_days() {
+    let board = Board::client();
+    let client = Client::of(board.address);
+    let held = [0xFE, 6, 0x77, 6, 2, 5, 21, 30, 22];
+    schedule_answers(
+        &client,
+        3,
+        &[
+            (&[0xFE, 6, 0x77, 9, 2, 5, 21, 30, 22], &held),
+            // A field outside its set stores nothing, a wrong day, period or length is unknown.
+            (&[0xFE, 6, 0x77, 9, 2, 4, 14, 31, 23], &held),
+            (&[0xFE, 6, 0x77, 10, 2, 5, 21, 30, 22], &[0xFD, 0x77]),
+            (&[0xFE, 6, 0x77, 9, 5, 5, 21, 30, 22], &[0xFD, 0x77]),
+            (&[0xFE, 5, 0x77, 9, 2, 5, 21, 30], &[0xFD, 0x77]),
+        ],
+    );
+    client.gets_silence(&request(
+        ID.as_bytes(),
+        PASSWORD,
+        2,
+        &[0xFE, 6, 0x77, 7, 3, 1, 0, 5, 6],
+    ));
+    schedule_answers(
+        &client,
+        1,
+        &[
+            (&[0xFE, 2, 0x77, 6, 2], &held),
+            (
+                &[0xFE, 2, 0x77, 7, 2],
+                &[0xFE, 6, 0x77, 7, 2, 5, 21, 30, 22],
+            ),
+            (&[0xFE, 2, 0x77, 7, 3], &[0xFE, 6, 0x77, 7, 3, 1, 0, 5, 6]),
+            (&[0xFE, 2, 0x77, 5, 2], &[0xFE, 6, 0x77, 5, 2, 0, 0, 0, 0]),
+            (&[0xFE, 2, 0x77, 9, 2], &[0xFD, 0x77]),
+            (&[0x77], &[0xFD, 0x77]),
+        ],
+    );
+}
+
 #[test]
 fn measured_values_are_there_from_the_start() {
     let board = Board::start(

@@ -8,22 +8,11 @@ use std::path::PathBuf;
 use std::process::Output;
 use std::thread;
 use std::time::Instant;
+use udgornwy::entry::NUMBER;
 use udgornwy::exchange::Exchange;
 use udgornwy::ffi::DEFAULT_ID;
 use udgornwy::rows::{Size, ROWS};
 use udgornwy::target::Target;
-
-/// A failed command has one line on standard error and nothing on standard output.
-fn failed(output: &Output, status: i32, reason: &str) {
-    let errors = errors(output);
-    assert_eq!(output.status.code(), Some(status), "{errors}");
-    assert_eq!(errors.lines().count(), 1, "{errors}");
-    assert!(
-        errors.starts_with("udgornwy: ") && errors.contains(reason),
-        "{errors}"
-    );
-    assert!(output.stdout.is_empty());
-}
 
 fn scratch(name: &str) -> PathBuf {
     PathBuf::from(env!("CARGO_TARGET_TMPDIR")).join(name)
@@ -86,7 +75,9 @@ fn values_are_set_raised_and_lowered() {
 #[test]
 fn every_row_of_the_table_exists_with_its_size() {
     let board = Board::client();
-    for some in ROWS.chunks(8) {
+    // The schedule is read by day and period.
+    let rows = ROWS.iter().filter(|row| row.number != NUMBER);
+    for some in rows.collect::<Vec<_>>().chunks(8) {
         let names: Vec<&str> = some.iter().map(|row| row.name).collect();
         let listing = board.listed("get", &names);
         assert_eq!(listing.lines().count(), 1 + names.len());
@@ -158,20 +149,9 @@ fn nobody_there_times_out_after_all_retries() {
     assert!(silent.recv_from(&mut packet).is_err(), "sent a fourth time");
 }
 
-/// Runs `get 0x0001` against a socket that answers the first request with these packets.
+/// Runs `get 0x0001` against a socket that answers with these packets.
 fn answered_with(packets: &[Vec<u8>], limit: &str) -> Output {
-    let socket = open_socket();
-    let host = socket.local_addr().expect("an address").to_string();
-    thread::scope(|scope| {
-        scope.spawn(|| {
-            let (_, client) = socket.recv_from(&mut [0; 256]).expect("a request");
-            for packet in packets {
-                socket.send_to(packet, client).expect("a packet sent");
-            }
-        });
-        let more = ["-t", limit, "-r", "0", "0x0001"];
-        ask(&host, (ID, PASSWORD), "get", &more)
-    })
+    answered(packets, "get", &["-t", limit, "-r", "0", "0x0001"])
 }
 
 /// Packets that are no response to `get 0x0001`, with the reader's refusal of each.
@@ -303,7 +283,9 @@ fn bad_arguments_are_one_line() {
         (with("get", &["fan"]), "`fan` is neither a row's name"),
         (with("set", &["0x0001"]), "`0x0001` has no value"),
         (with("set", &["0x0001=300"]), "300 does not fit"),
-        (with("set", &["0x0077=1"]), "takes no decimal value"),
+        (with("set", &["0x0070=1"]), "takes no decimal value"),
+        (with("set", &["0x0077=1"]), "`udgornwy schedule set`"),
+        (with("get", &["0x0077"]), "`udgornwy schedule get`"),
         (with("get", &["-t", "0", "0x0001"]), "-t takes"),
         (with("get", &["-r", "x", "0x0001"]), "-r takes"),
         (
@@ -322,6 +304,7 @@ fn help_and_rows_are_on_standard_output() {
     assert!(help.contains("udgornwy search") && help.lines().all(|line| line.len() <= 132));
     assert_eq!(listing(&run(&["get", "--help"])), help);
     let rows = listing(&run(&["rows"]));
-    assert_eq!(rows.lines().count(), 73);
+    assert_eq!(rows.lines().count(), 74);
     assert!(rows.contains("0x0063  2      filter-replacement-timer"));
+    assert!(rows.contains("0x0077  6      schedule-setup"));
 }

@@ -140,12 +140,39 @@ pub fn errors(output: &Output) -> String {
     String::from_utf8(output.stderr.clone()).expect("text")
 }
 
+/// A failed command has one line on standard error and nothing on standard output.
+pub fn failed(output: &Output, status: i32, reason: &str) {
+    let errors = errors(output);
+    assert_eq!(output.status.code(), Some(status), "{errors}");
+    assert_eq!(errors.lines().count(), 1, "{errors}");
+    assert!(
+        errors.starts_with("udgornwy: ") && errors.contains(reason),
+        "{errors}"
+    );
+    assert!(output.stdout.is_empty());
+}
+
 /// A socket on the loopback address that does not wait forever.
 pub fn open_socket() -> UdpSocket {
     let socket = UdpSocket::bind("127.0.0.1:0").expect("a socket");
     let limited = socket.set_read_timeout(Some(PATIENCE));
     limited.expect("a time limit");
     socket
+}
+
+/// Runs a command of the client against a socket that answers the first request with these packets.
+pub fn answered(packets: &[Vec<u8>], command: &str, more: &[&str]) -> Output {
+    let socket = open_socket();
+    let host = socket.local_addr().expect("an address").to_string();
+    thread::scope(|scope| {
+        scope.spawn(|| {
+            let (_, client) = socket.recv_from(&mut [0; 256]).expect("a request");
+            for packet in packets {
+                socket.send_to(packet, client).expect("a packet sent");
+            }
+        });
+        ask(&host, (ID, PASSWORD), command, more)
+    })
 }
 
 /// A board's client by socket.

@@ -1,0 +1,250 @@
+//! The weekly schedule by the command line client, against a board and against sockets that answer otherwise.
+
+mod common;
+
+use common::*;
+
+const START: &str = "standby  ventilation only  until 00:00";
+const EVENING: &str = "speed 2  21 degrees        until 22:30";
+
+fn line(day: &str, period: u8, fields: &str) -> String {
+    format!("{day:<9}  period {period}  {fields}\n")
+}
+
+const DAYS: [&str; 7] = [
+    "monday",
+    "tuesday",
+    "wednesday",
+    "thursday",
+    "friday",
+    "saturday",
+    "sunday",
+];
+
+/// The week in which a period of some days has other fields than at the start.
+fn week(days: &[&str], period: u8, fields: &str) -> String {
+    let places = DAYS
+        .iter()
+        .flat_map(|day| (1..=4).map(move |period| (*day, period)));
+    let lines = places.map(|(day, at)| {
+        let is_set = at == period && days.contains(&day);
+        line(day, at, if is_set { fields } else { START })
+    });
+    lines.collect()
+}
+
+#[test]
+fn a_week_is_28_lines_in_two_packets() {
+    let board = Board::client();
+    let listed = board.listed("schedule", &["get"]);
+    assert_eq!(listed.lines().count(), 28);
+    assert_eq!(listed, week(&[], 0, ""));
+    // 25 reports of nine bytes and three, behind a head of 26 bytes, with a sum of two.
+    for (asked, answered) in [(153, 253), (43, 55)] {
+        let end = format!(": {asked} bytes: response of {answered} bytes");
+        let said = board.line();
+        assert!(said.ends_with(&end), "{said}");
+    }
+}
+
+#[test]
+fn one_day_is_set_and_no_other() {
+    let board = Board::client();
+    let set = ["set", "wednesday", "3", "2", "21", "22:30"];
+    assert_eq!(
+        board.listed("schedule", &set),
+        line("wednesday", 3, EVENING)
+    );
+    assert_eq!(
+        board.listed("schedule", &["get"]),
+        week(&["wednesday"], 3, EVENING)
+    );
+    assert_eq!(
+        board.listed("schedule", &["get", "3", "3"]),
+        line("wednesday", 3, EVENING)
+    );
+    let day = board.listed("schedule", &["get", "wed"]);
+    assert_eq!(day.lines().count(), 4);
+    assert!(week(&["wednesday"], 3, EVENING).contains(&day));
+}
+
+#[test]
+fn a_group_is_set_on_each_of_its_days() {
+    for (group, days) in [
+        ("weekdays", &DAYS[..5]),
+        ("weekend", &DAYS[5..]),
+        ("every-day", &DAYS[..]),
+        ("all", &DAYS[..]),
+    ] {
+        let board = Board::client();
+        let set = ["set", group, "1", "2", "21", "22:30"];
+        assert_eq!(board.listed("schedule", &set), line(days[0], 1, EVENING));
+        assert_eq!(board.listed("schedule", &["get"]), week(days, 1, EVENING));
+        for day in days {
+            assert_eq!(
+                board.listed("schedule", &["get", day, "1"]),
+                line(day, 1, EVENING)
+            );
+        }
+    }
+}
+
+/// The rows' commands take the schedule as bytes, and the listing has them as they came.
+#[test]
+fn a_write_by_bytes_is_listed_as_bytes() {
+    let board = Board::client();
+    for (value, listed) in [
+        ("0x09010215160F", "0x0077,06010215160F\n"),
+        ("0x0A010215160F", "0x0077,unknown\n"),
+        ("0x06010615160F", "0x0077,06010215160F\n"),
+    ] {
+        let word = format!("schedule-setup={value}");
+        assert_eq!(
+            board.listed("set", &[&word]),
+            format!("number,value\n{listed}")
+        );
+    }
+}
+
+#[test]
+fn a_response_is_kept_and_packets_are_dumped() {
+    let board = Board::client();
+    let raw = std::path::Path::new(env!("CARGO_TARGET_TMPDIR")).join("entry");
+    let kept = raw.to_str().expect("a path of text");
+    let output = board.ask("schedule", &["get", "-d", "--raw", kept, "sun", "4"]);
+    assert_eq!(listing(&output), line("sunday", 4, START));
+    let asked = request(ID.as_bytes(), PASSWORD, 1, &[0xFE, 2, 0x77, 7, 4]);
+    let answer = response(ID.as_bytes(), PASSWORD, &[0xFE, 6, 0x77, 7, 4, 0, 0, 0, 0]);
+    assert_eq!(std::fs::read(&raw).expect("the kept response"), answer);
+    let host = board.host();
+    let dumped = format!(
+        "sent 33 bytes to {host}\n{}received 37 bytes from {host}\n{}",
+        udgornwy::dump::dump(&asked),
+        udgornwy::dump::dump(&answer)
+    );
+    assert_eq!(errors(&output), dumped);
+}
+
+/// Nothing is sent: nobody is there to answer.
+#[test]
+fn bad_arguments_are_told_before_anything_is_sent() {
+    let asked = |more: &[&str]| ask("127.0.0.1:9", (ID, PASSWORD), "schedule", more);
+    for (more, reason) in [
+        (&[][..], "schedule takes get or set"),
+        (&["raise", "monday", "1"], "schedule takes get or set"),
+        (&["get", "weekend"], "`weekend` is several days"),
+        (&["get", "8"], "`8` is several days"),
+        (&["get", "10"], "`10` is no day"),
+        (&["get", "monday", "5"], "the period is 1 to 4, not `5`"),
+        (&["get", "monday", "1", "2"], "DAY and PERIOD at most"),
+        (&["get", "--raw", "week"], "name a day"),
+        (
+            &["set", "monday", "1", "3", "21"],
+            "takes DAY PERIOD SPEED TEMPERATURE HH:MM",
+        ),
+        (
+            &["set", "moonday", "1", "3", "21", "08:30"],
+            "`moonday` is no day",
+        ),
+        (
+            &["set", "monday", "0", "3", "21", "08:30"],
+            "the period is 1 to 4, not `0`",
+        ),
+        (
+            &["set", "monday", "1", "6", "21", "08:30"],
+            "the speed is 0 to 5, not `6`",
+        ),
+        (
+            &["set", "monday", "1", "3", "14", "08:30"],
+            "the temperature is 0 or 15 to 30, not `14`",
+        ),
+        (
+            &["set", "monday", "1", "3", "21", "24:00"],
+            "the end is 00:00 to 23:59, not `24:00`",
+        ),
+        (
+            &["set", "monday", "1", "3", "21", "08:60"],
+            "the end is 00:00 to 23:59, not `08:60`",
+        ),
+    ] {
+        failed(&asked(more), 2, reason);
+    }
+}
+
+const SET: [&str; 10] = [
+    "set", "-t", "20", "-r", "0", "weekend", "4", "3", "21", "08:30",
+];
+
+fn reported(data: &[u8]) -> [Vec<u8>; 1] {
+    [response(ID.as_bytes(), PASSWORD, data)]
+}
+
+#[test]
+fn an_entry_that_was_not_stored_is_shown_and_told() {
+    for held in [
+        [0, 0, 0, 0],
+        [3, 21, 30, 9],
+        [4, 21, 30, 8],
+        [3, 20, 30, 8],
+        [3, 21, 31, 8],
+    ] {
+        let data = [&[0xFE, 6, 0x77, 6, 4], &held[..]].concat();
+        let output = answered(&reported(&data), "schedule", &SET);
+        assert_eq!(output.status.code(), Some(1));
+        let shown = String::from_utf8(output.stdout.clone()).expect("text");
+        assert!(shown.starts_with("saturday   period 4  ") && shown.lines().count() == 1);
+        let reason = "udgornwy: the board did not store the entry that was asked for: it holds the one shown\n";
+        assert_eq!(errors(&output), reason);
+    }
+    let stored = answered(
+        &reported(&[0xFE, 6, 0x77, 6, 4, 3, 21, 30, 8]),
+        "schedule",
+        &SET,
+    );
+    let line = line("saturday", 4, "speed 3  21 degrees        until 08:30");
+    assert_eq!(listing(&stored), line);
+}
+
+#[test]
+fn reports_that_are_no_answer() {
+    let get = ["get", "-t", "20", "-r", "0", "saturday", "4"];
+    for (data, reason) in [
+        (
+            &[0xFD, 0x77][..],
+            "the board reports 0x0077 as unknown for saturday, period 4",
+        ),
+        (
+            &[0xFE, 6, 0x77, 5, 4, 3, 21, 30, 8],
+            "the board reports 0x0077,050403151E08 where",
+        ),
+        (
+            &[0xFE, 6, 0x77, 6, 3, 3, 21, 30, 8],
+            "where the entry of saturday, period 4 was asked for",
+        ),
+        (
+            &[0xFE, 5, 0x77, 6, 4, 3, 21, 30],
+            "the board reports 0x0077,060403151E where",
+        ),
+        (
+            &[0xFE, 6, 0x78, 6, 4, 3, 21, 30, 8],
+            "the board reports 0x0078,060403151E08 where",
+        ),
+        (&[], "reports asked for: 1, reports that came: 0"),
+        (
+            &[0xFD, 0x77, 0xFD, 0x77],
+            "reports asked for: 1, reports that came: 2",
+        ),
+    ] {
+        failed(&answered(&reported(data), "schedule", &get), 1, reason);
+        failed(&answered(&reported(data), "schedule", &SET), 1, reason);
+    }
+}
+
+#[test]
+fn a_wrong_password_times_out_and_stores_nothing() {
+    let board = Board::client();
+    let set = ["set", "-t", "0.3", "all", "1", "2", "21", "22:30"];
+    let output = ask(&board.host(), (ID, "2222"), "schedule", &set);
+    failed(&output, 1, "no response from");
+    assert_eq!(board.listed("schedule", &["get"]), week(&[], 0, ""));
+}
