@@ -96,16 +96,18 @@ impl Entry {
     /// The words `DAY PERIOD SPEED TEMPERATURE HH:MM`; the day may be a group.
     pub fn parse(words: [&str; 5]) -> Result<Entry, String> {
         let [day, period, speed, temperature, end] = words;
+        let place = Place {
+            day: parse_days(day)?,
+            period: parse_period(period)?,
+        };
+        let speed = parse_number("speed", speed, "0 to 5", |number| number <= 5)?;
+        let degrees = |number| matches!(number, 0 | 15..=30);
+        let temperature = parse_number("temperature", temperature, "0 or 15 to 30", degrees)?;
         let (hour, minute) = parse_time(end)?;
         Ok(Entry {
-            place: Place {
-                day: parse_days(day)?,
-                period: parse_period(period)?,
-            },
-            speed: parse_number("speed", speed, "0 to 5", |number| number <= 5)?,
-            temperature: parse_number("temperature", temperature, "0 or 15 to 30", |number| {
-                matches!(number, 0 | 15..=30)
-            })?,
+            place,
+            speed,
+            temperature,
             minute,
             hour,
         })

@@ -4,7 +4,6 @@ mod common;
 
 use common::*;
 use std::net::{SocketAddr, UdpSocket};
-use std::path::PathBuf;
 use std::process::Output;
 use std::thread;
 use std::time::Instant;
@@ -13,10 +12,6 @@ use udgornwy::exchange::Exchange;
 use udgornwy::ffi::DEFAULT_ID;
 use udgornwy::rows::{Size, ROWS};
 use udgornwy::target::Target;
-
-fn scratch(name: &str) -> PathBuf {
-    PathBuf::from(env!("CARGO_TARGET_TMPDIR")).join(name)
-}
 
 #[test]
 fn the_guides_read_is_sent_and_its_response_kept_and_listed() {

@@ -109,7 +109,7 @@ fn a_write_by_bytes_is_listed_as_bytes() {
 #[test]
 fn a_response_is_kept_and_packets_are_dumped() {
     let board = Board::client();
-    let raw = std::path::Path::new(env!("CARGO_TARGET_TMPDIR")).join("entry");
+    let raw = scratch("entry");
     let kept = raw.to_str().expect("a path of text");
     let output = board.ask("schedule", &["get", "-d", "--raw", kept, "sun", "4"]);
     assert_eq!(listing(&output), line("sunday", 4, START));

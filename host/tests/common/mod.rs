@@ -4,6 +4,7 @@
 
 use std::io::{BufRead, BufReader, Read};
 use std::net::{SocketAddr, UdpSocket};
+use std::path::{Path, PathBuf};
 use std::process::{Child, Command, ExitStatus, Output, Stdio};
 use std::sync::mpsc::{self, Receiver};
 use std::thread::{self, sleep};
@@ -150,6 +151,13 @@ pub fn failed(output: &Output, status: i32, reason: &str) {
         "{errors}"
     );
     assert!(output.stdout.is_empty());
+}
+
+/// Where a test keeps a file; what an earlier run left there is gone.
+pub fn scratch(name: &str) -> PathBuf {
+    let path = Path::new(env!("CARGO_TARGET_TMPDIR")).join(name);
+    let _ = std::fs::remove_file(&path);
+    path
 }
 
 /// A socket on the loopback address that does not wait forever.
