@@ -78,6 +78,7 @@ pub struct Tenths {
 }
 
 // A temperature setpoint.
+#[repr(C)]
 pub struct WholeDegrees {
     pub degrees: u8,
 }

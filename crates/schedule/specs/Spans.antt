@@ -1,0 +1,15 @@
+-- How the code stands for the days of a write: from a first day until before an end.
+use Prim.Native.Nat.{ℕ, suc}
+use mathlib.Core.Bool.{cond}
+use lib.Dec.{eqb}
+use Rattle.schedule.specs.Days.{isDay}
+use Rattle.schedule.specs.declared.Span.{Span}
+use Rattle.schedule.specs.declared.Span.the-variants.{Until, Nothing}
+
+abbrev pub spanOf : ℕ → Span
+spanOf day =
+    cond (eqb day 0) (Until 1 8)
+    (cond (eqb day 8) (Until 1 6)
+    (cond (eqb day 9) (Until 6 8)
+    (cond (isDay day) (Until day (suc day))
+    Nothing)))

@@ -1,0 +1,267 @@
+// The weekly schedule, parameter 0x0077: an entry for each day and period, and what reading and writing make of them.
+use store::WholeDegrees;
+ghost use mathlib.Core.Bool.{cond};
+ghost use mathlib.Core.Path.{_≡_};
+ghost use lib.Dec.{leb};
+ghost use Rattle.schedule.specs.Days.{isDay, isPeriod};
+ghost use Rattle.schedule.specs.Entries.{isTemperature, legal, placeOf, entryAt, start as startOf, sound as soundOf, withDays};
+ghost use Rattle.schedule.specs.Operations.{answered, reportOf, written};
+ghost use Rattle.schedule.specs.Spans.{spanOf};
+
+const ENTRIES: usize = 28;
+
+// The speed and the temperature of a period, and the minute and hour at which it ends.
+#[repr(C)]
+pub struct Entry {
+    pub speed: u8,
+    pub temperature: WholeDegrees,
+    pub minute: u8,
+    pub hour: u8,
+}
+
+// The entries by day and, within a day, by period.
+#[repr(C)]
+pub struct Schedule {
+    pub entries: [Entry; 28],
+}
+
+// What a command is answered with: an entry, the mark of an unknown parameter, or nothing.
+pub enum Answer {
+    Entry { day: u8, period: u8 },
+    Unknown,
+    Silence,
+}
+
+// The days that a written day stands for, from the first until before the end.
+enum Span {
+    Until { first: u8, end: u8 },
+    Nothing,
+}
+
+fn span_of(day: u8) -> Span
+    ensures { λ r. ⌜ r ≡ spanOf day ⌝ }
+{
+    match day {
+        0 => Span::Until { first: 1, end: 8 },
+        1..=7 => Span::Until {
+            first: day,
+            end: day + 1,
+        },
+        8 => Span::Until { first: 1, end: 6 },
+        9 => Span::Until { first: 6, end: 8 },
+        _ => Span::Nothing,
+    }
+}
+
+fn is_day(day: u8) -> bool
+    ensures { λ r. ⌜ r ≡ isDay day ⌝ }
+{
+    match day {
+        1..=7 => true,
+        _ => false,
+    }
+}
+
+fn is_period(period: u8) -> bool
+    ensures { λ r. ⌜ r ≡ isPeriod period ⌝ }
+{
+    match period {
+        1..=4 => true,
+        _ => false,
+    }
+}
+
+fn is_temperature(temperature: WholeDegrees) -> bool
+    ensures { λ r. ⌜ r ≡ isTemperature temperature ⌝ }
+{
+    match temperature.degrees {
+        0 => true,
+        15..=30 => true,
+        _ => false,
+    }
+}
+
+fn is_legal(entry: Entry) -> bool
+    ensures { λ r. ⌜ r ≡ legal entry ⌝ }
+{
+    if 5 < entry.speed {
+        return false;
+    }
+    if !is_temperature(entry.temperature) {
+        return false;
+    }
+    if 59 < entry.minute {
+        return false;
+    }
+    entry.hour <= 23
+}
+
+// Where the entry of a day and a period stands.
+fn place_of(day: u8, period: u8) -> usize
+    ensures { λ r. ⌜ r ≡ placeOf day period ⌝ }
+{
+    let number = 4 * octets::wide(day) + octets::wide(period);
+    if number < 5 {
+        return 0;
+    }
+    number - 5
+}
+
+fn lowest() -> Entry
+    ensures { λ r. ⌜ r ≡ lowestEntry ⌝ }
+{
+    Entry {
+        speed: 0,
+        temperature: WholeDegrees { degrees: 0 },
+        minute: 0,
+        hour: 0,
+    }
+}
+
+fn entry_at(schedule: Schedule, day: u8, period: u8) -> Entry
+    ensures { λ r. ⌜ r ≡ entryAt schedule day period ⌝ }
+{
+    let entries = schedule.entries;
+    let place = place_of(day, period);
+    if place < ENTRIES {
+        return entries[place];
+    }
+    lowest()
+}
+
+// The entries with another one for a period of each day from `first` until before `end`.
+fn with_days(
+    entries: [Entry; 28],
+    first: u8,
+    end: u8,
+    period: u8,
+    new: Entry,
+) -> [Entry; 28]
+    ensures { λ r. ⌜ r ≡ withDays entries (daysFrom first (end - first)) period new ⌝ }
+{
+    let mut all = entries;
+    let mut day = first;
+    while day < end {
+        let place = place_of(day, period);
+        if place < ENTRIES {
+            all[place] = new;
+        }
+        day += 1;
+    }
+    all
+}
+
+// 01: the entry of a day and a period.
+fn asked(value: &[u8]) -> Answer
+{
+    if value.len() != 2 {
+        return Answer::Unknown;
+    }
+    let day = value[0];
+    let period = value[1];
+    if !is_day(day) {
+        return Answer::Unknown;
+    }
+    if !is_period(period) {
+        return Answer::Unknown;
+    }
+    Answer::Entry { day, period }
+}
+
+// 03: the entry of the first day written, just after the write.
+fn addressed(value: &[u8]) -> Answer
+{
+    if value.len() != 6 {
+        return Answer::Unknown;
+    }
+    let Span::Until { first, end: _ } = span_of(value[0]) else {
+        return Answer::Unknown;
+    };
+    let period = value[1];
+    if !is_period(period) {
+        return Answer::Unknown;
+    }
+    Answer::Entry { day: first, period }
+}
+
+// What a command of the schedule is answered with.
+pub fn answered_with(function: u8, value: &[u8]) -> Answer
+    ensures { λ r. ⌜ r ≡ answered function (now (value .entry)) ⌝ }
+{
+    match function {
+        1 => asked(value),
+        2 => Answer::Silence,
+        3 => addressed(value),
+        _ => Answer::Unknown,
+    }
+}
+
+// The value reported for the entry of a day and a period.
+pub fn report(schedule: Schedule, day: u8, period: u8) -> [u8; 6]
+    ensures { λ r. ⌜ r ≡ reportOf schedule day period ⌝ }
+{
+    let entry = entry_at(schedule, day, period);
+    let temperature = entry.temperature;
+    [
+        day,
+        period,
+        entry.speed,
+        temperature.degrees,
+        entry.minute,
+        entry.hour,
+    ]
+}
+
+// Functions 02 and 03: stores an entry on each day written, unless one of its fields is bad.
+pub fn write(schedule: Schedule, value: &[u8]) -> Schedule
+    ensures { λ r. ⌜ r ≡ written schedule (now (value .entry)) ⌝ }
+{
+    if value.len() != 6 {
+        return schedule;
+    }
+    let Span::Until { first, end } = span_of(value[0]) else {
+        return schedule;
+    };
+    let period = value[1];
+    if !is_period(period) {
+        return schedule;
+    }
+    let entry = Entry {
+        speed: value[2],
+        temperature: WholeDegrees { degrees: value[3] },
+        minute: value[4],
+        hour: value[5],
+    };
+    if !is_legal(entry) {
+        return schedule;
+    }
+    let entries = schedule.entries;
+    Schedule {
+        entries: with_days(entries, first, end, period, entry),
+    }
+}
+
+// The schedule as set-up leaves it.
+pub fn start() -> Schedule
+    ensures { λ r. ⌜ r ≡ startOf ⌝ }
+{
+    Schedule {
+        entries: [lowest(); 28],
+    }
+}
+
+// Whether the fields of each entry are in their ranges.
+pub fn sound(schedule: Schedule) -> bool
+    ensures { λ r. ⌜ r ≡ soundOf schedule ⌝ }
+{
+    let entries = schedule.entries;
+    let mut index: usize = 0;
+    while index < ENTRIES {
+        if is_legal(entries[index]) {
+            index += 1;
+        } else {
+            return false;
+        }
+    }
+    true
+}
