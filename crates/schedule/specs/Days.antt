@@ -1,16 +1,17 @@
 -- Days and periods: those that an entry has, and those that a written day stands for.
 use Prim.Native.Nat.{ℕ}
-use mathlib.Core.Bool.{Bool, true, false, cond, not, _&&_, _||_}
+use mathlib.Core.Bool.{Bool, true, false, cond, not, _||_}
 use mathlib.Core.List.{List, [], _∷_}
-use lib.Dec.{eqb, leb}
+use lib.Dec.{eqb}
 use lib.ListN.{getD}
+use Rattle.store.specs.Sets.{between}
 
 -- Monday is 1, Sunday 7
 abbrev pub isDay : ℕ → Bool
-isDay day = leb 1 day && leb day 7
+isDay day = between 1 7 day
 
 abbrev pub isPeriod : ℕ → Bool
-isPeriod period = leb 1 period && leb period 4
+isPeriod period = between 1 4 period
 
 -- the days that a written day stands for: 0 is every day, 8 Monday to Friday, 9 Saturday and Sunday
 abbrev pub daysOf : ℕ → List ℕ

@@ -4,6 +4,7 @@ use mathlib.Core.Bool.{Bool, true, _&&_, _||_}
 use mathlib.Core.List.{List, [], _∷_}
 use lib.Dec.{eqb, leb}
 use lib.ListN.{getD, set, replicate}
+use Rattle.store.specs.Sets.{between}
 use Rattle.store.specs.declared.WholeDegrees.{WholeDegrees}
 use Rattle.schedule.specs.declared.Entry.{Entry}
 use Rattle.schedule.specs.declared.Schedule.{Schedule}
@@ -16,7 +17,7 @@ entry speed temperature minute hour = record { speed = speed; temperature = temp
 
 -- 0 is ventilation only
 abbrev pub isTemperature : WholeDegrees → Bool
-isTemperature temperature = eqb (temperature .degrees) 0 || leb 15 (temperature .degrees) && leb (temperature .degrees) 30
+isTemperature temperature = eqb (temperature .degrees) 0 || between 15 30 (temperature .degrees)
 
 -- speed 0 to 5, a temperature, and the minute and hour at which the period ends
 abbrev pub legal : Entry → Bool

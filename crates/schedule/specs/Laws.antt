@@ -43,4 +43,3 @@ StartSized = Sized start
 
 abbrev pub StartSound : Type 0
 StartSound = sound start ≡ true
-

@@ -32,12 +32,20 @@ reads value = eqb (length value) 2 && isDay (dayIn value) && isPeriod (periodIn 
 abbrev pub writes : List ℕ → Bool
 writes value = eqb (length value) 6 && isWritable (dayIn value) && isPeriod (periodIn value)
 
--- 01 is answered with the entry asked for, 03 with that of the first day written, 02 with nothing; anything else is an unknown parameter
+-- 01 is answered with the entry asked for
+abbrev pub askedBy : List ℕ → Answer
+askedBy value = cond (reads value) (answer.Entry (dayIn value) (periodIn value)) answer.Unknown
+
+-- 03 is answered with the entry of the first day written
+abbrev pub addressedBy : List ℕ → Answer
+addressedBy value = cond (writes value) (answer.Entry (firstDay (dayIn value)) (periodIn value)) answer.Unknown
+
+-- 02 is answered with nothing, and a function but these three is one that the parameter does not have
 abbrev pub answered : ℕ → List ℕ → Answer
 answered function value =
-    cond (eqb function 1) (cond (reads value) (answer.Entry (dayIn value) (periodIn value)) answer.Unknown)
+    cond (eqb function 1) (askedBy value)
     (cond (eqb function 2) answer.Silence
-    (cond (eqb function 3) (cond (writes value) (answer.Entry (firstDay (dayIn value)) (periodIn value)) answer.Unknown)
+    (cond (eqb function 3) (addressedBy value)
     answer.Unknown))
 
 -- the value reported for an entry: six bytes

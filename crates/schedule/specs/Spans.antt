@@ -1,6 +1,7 @@
 -- How the code stands for the days of a write: from a first day until before an end.
-use Prim.Native.Nat.{ℕ, suc}
+use Prim.Native.Nat.{ℕ, zero, suc}
 use mathlib.Core.Bool.{cond}
+use mathlib.Core.List.{List, [], _∷_}
 use lib.Dec.{eqb}
 use Rattle.schedule.specs.Days.{isDay}
 use Rattle.schedule.specs.declared.Span.{Span}
@@ -13,3 +14,8 @@ spanOf day =
     (cond (eqb day 9) (Until 6 8)
     (cond (isDay day) (Until day (suc day))
     Nothing)))
+
+-- as many days as the count, from the first on
+unfoldable pub daysFrom : ℕ → ℕ → List ℕ
+daysFrom zero first = []
+daysFrom (suc count) first = first ∷ daysFrom count (suc first)

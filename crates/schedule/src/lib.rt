@@ -1,12 +1,14 @@
 // The weekly schedule, parameter 0x0077: an entry for each day and period, and what reading and writing make of them.
 use store::WholeDegrees;
-ghost use mathlib.Core.Bool.{cond};
+ghost use Prim.Native.Nat.{_-_};
 ghost use mathlib.Core.Path.{_≡_};
-ghost use lib.Dec.{leb};
+ghost use lib.ListN.{set};
+ghost use Rattle.store.specs.Sets.{between};
 ghost use Rattle.schedule.specs.Days.{isDay, isPeriod};
-ghost use Rattle.schedule.specs.Entries.{isTemperature, legal, placeOf, entryAt, start as startOf, sound as soundOf, withDays};
-ghost use Rattle.schedule.specs.Operations.{answered, reportOf, written};
-ghost use Rattle.schedule.specs.Spans.{spanOf};
+ghost use Rattle.schedule.specs.Entries.{isTemperature, legal, lowest as lowestEntry, placeOf, entryAt, withDays};
+ghost use Rattle.schedule.specs.Entries.{start as startOf, sound as soundOf};
+ghost use Rattle.schedule.specs.Operations.{askedBy, addressedBy, answered, reportOf, written};
+ghost use Rattle.schedule.specs.Spans.{spanOf, daysFrom};
 
 const ENTRIES: usize = 28;
 
@@ -53,32 +55,35 @@ fn span_of(day: u8) -> Span
     }
 }
 
+fn is_between(low: u8, high: u8, number: u8) -> bool
+    ensures { λ r. ⌜ r ≡ between low high number ⌝ }
+{
+    if number < low {
+        return false;
+    }
+    number <= high
+}
+
 fn is_day(day: u8) -> bool
     ensures { λ r. ⌜ r ≡ isDay day ⌝ }
 {
-    match day {
-        1..=7 => true,
-        _ => false,
-    }
+    is_between(1, 7, day)
 }
 
 fn is_period(period: u8) -> bool
     ensures { λ r. ⌜ r ≡ isPeriod period ⌝ }
 {
-    match period {
-        1..=4 => true,
-        _ => false,
-    }
+    is_between(1, 4, period)
 }
 
 fn is_temperature(temperature: WholeDegrees) -> bool
     ensures { λ r. ⌜ r ≡ isTemperature temperature ⌝ }
 {
-    match temperature.degrees {
-        0 => true,
-        15..=30 => true,
-        _ => false,
+    let degrees = temperature.degrees;
+    if degrees == 0 {
+        return true;
     }
+    is_between(15, 30, degrees)
 }
 
 fn is_legal(entry: Entry) -> bool
@@ -129,23 +134,25 @@ fn entry_at(schedule: Schedule, day: u8, period: u8) -> Entry
     lowest()
 }
 
+fn with_entry(entries: [Entry; 28], place: usize, new: Entry) -> [Entry; 28]
+    ensures { λ r. ⌜ r ≡ set entries place new ⌝ }
+{
+    let mut all = entries;
+    if place < ENTRIES {
+        all[place] = new;
+    }
+    all
+}
+
 // The entries with another one for a period of each day from `first` until before `end`.
-fn with_days(
-    entries: [Entry; 28],
-    first: u8,
-    end: u8,
-    period: u8,
-    new: Entry,
-) -> [Entry; 28]
-    ensures { λ r. ⌜ r ≡ withDays entries (daysFrom first (end - first)) period new ⌝ }
+fn with_days(entries: [Entry; 28], first: u8, end: u8, period: u8, new: Entry) -> [Entry; 28]
+    ensures { λ r. ⌜ r ≡ withDays entries (daysFrom (end - first) first) period new ⌝ }
 {
     let mut all = entries;
     let mut day = first;
     while day < end {
-        let place = place_of(day, period);
-        if place < ENTRIES {
-            all[place] = new;
-        }
+        let next = with_entry(all, place_of(day, period), new);
+        all = next;
         day += 1;
     }
     all
@@ -153,6 +160,7 @@ fn with_days(
 
 // 01: the entry of a day and a period.
 fn asked(value: &[u8]) -> Answer
+    ensures { λ r. ⌜ r ≡ askedBy (now (value .entry)) ⌝ }
 {
     if value.len() != 2 {
         return Answer::Unknown;
@@ -170,6 +178,7 @@ fn asked(value: &[u8]) -> Answer
 
 // 03: the entry of the first day written, just after the write.
 fn addressed(value: &[u8]) -> Answer
+    ensures { λ r. ⌜ r ≡ addressedBy (now (value .entry)) ⌝ }
 {
     if value.len() != 6 {
         return Answer::Unknown;
