@@ -1,50 +1,63 @@
+-- `addressed` meets its contract.
+use mathlib.Core.Path.{sym, _∙_}
+use borrow.Author.Tests.{eq-eqb, ne-eqb, not-true, not-false}
+use denote.Ref.{now}
+use Rattle.schedule.specs.Operations.{dayIn}
+use Rattle.schedule.proofs.Spans.{not-writable, found-writable, found-first}
 use borrow.Author.Needs.{needs}
 use Rattle.schedule.proofs.addressed.Statement.{statement}
 use Rattle.schedule.proofs.addressed.Tie as tie
-use Rattle.schedule.proofs.addressed.Reads as reads
-use Rattle.schedule.proofs.addressed.Lts as lts
-use Rattle.schedule.proofs.is_period.Reads as is-period-reads
-use Rattle.schedule.proofs.span_of.Reads as span-of-reads
 
--- src/lib.rt:184:9
 returns : tie.Need-returns
-returns c = ?
+returns c = simp (ne-eqb _ _ (c .if1 .taken))
 
--- src/lib.rt:186:49
 shared-slice-read-span-of : tie.Need-shared-slice-read-span-of
 shared-slice-read-span-of c = search needs
 
--- src/lib.rt:186:41
 span-of-requires : tie.Need-span-of-requires
 span-of-requires c κs = search needs
 
--- src/lib.rt:186:23
 enum-known-first : tie.Need-enum-known-first
 enum-known-first c = search needs
 
--- src/lib.rt:187:9
 enum-told : tie.Need-enum-told
 enum-told c = search needs
 
--- src/lib.rt:187:9
 returns-2 : tie.Need-returns-2
-returns-2 c = ?
+returns-2 c =
+    let span = c .before .before in
+    let value = now (span .before .before .before .before .args .value) in
+    simp (eq-eqb _ _ (span .before .before .if1 .left), not-writable (dayIn value) (sym (span .span-of .ensures) ∙ c .enum-told .given .1))
 
--- src/lib.rt:189:18
 shared-slice-read-period : tie.Need-shared-slice-read-period
 shared-slice-read-period c = search needs
 
--- src/lib.rt:190:9
 is-period-requires : tie.Need-is-period-requires
 is-period-requires c κs = search needs
 
--- src/lib.rt:191:9
 returns-3 : tie.Need-returns-3
-returns-3 c = ?
+returns-3 c =
+    let first = c .before .before .before .before in
+    let span = first .before .before in
+    let value = now (span .before .before .before .before .args .value) in
+    simp (
+      eq-eqb _ _ (span .before .before .if1 .left),
+      found-writable (dayIn value) _ _ (sym (span .span-of .ensures) ∙ first .first .given .1),
+      sym (c .before .is-period .ensures) ∙ not-true _ (c .if2 .taken),
+    )
 
--- src/lib.rt:180:1
 returns-4 : tie.Need-returns-4
-returns-4 c = ?
+returns-4 c =
+    let first = c .before .before .before .before in
+    let span = first .before .before in
+    let value = now (span .before .before .before .before .args .value) in
+    let found = sym (span .span-of .ensures) ∙ first .first .given .1 in
+    simp (
+      eq-eqb _ _ (span .before .before .if1 .left),
+      found-writable (dayIn value) _ _ found,
+      found-first (dayIn value) _ _ found,
+      sym (c .before .is-period .ensures) ∙ not-false _ (c .if2 .left),
+    )
 
 pub addressed-spec : {M : Type 1} → statement M
 addressed-spec =

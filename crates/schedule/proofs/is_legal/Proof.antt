@@ -1,29 +1,37 @@
+-- `is_legal` meets its contract.
+use mathlib.Core.Path.{sym, _∙_}
+use borrow.Author.Tests.{le-leb, lt-leb, not-true, not-false}
 use borrow.Author.Needs.{needs}
 use Rattle.schedule.proofs.is_legal.Statement.{statement}
 use Rattle.schedule.proofs.is_legal.Tie as tie
-use Rattle.schedule.proofs.is_legal.Reads as reads
-use Rattle.schedule.proofs.is_legal.Lts as lts
-use Rattle.schedule.proofs.is_temperature.Reads as is-temperature-reads
 
--- src/lib.rt:93:9
 returns : tie.Need-returns
-returns c = ?
+returns c = simp (lt-leb _ _ (c .if1 .taken))
 
--- src/lib.rt:95:9
 is-temperature-requires : tie.Need-is-temperature-requires
 is-temperature-requires c κs = search needs
 
--- src/lib.rt:96:9
 returns-2 : tie.Need-returns-2
-returns-2 c = ?
+returns-2 c =
+    simp (le-leb _ _ (c .before .before .if1 .left), sym (c .before .is-temperature .ensures) ∙ not-true _ (c .if2 .taken))
 
--- src/lib.rt:99:9
 returns-3 : tie.Need-returns-3
-returns-3 c = ?
+returns-3 c =
+    let temperature = c .before .before in
+    simp (
+      le-leb _ _ (temperature .before .before .if1 .left),
+      sym (temperature .before .is-temperature .ensures) ∙ not-false _ (temperature .if2 .left),
+      lt-leb _ _ (c .if3 .taken),
+    )
 
--- src/lib.rt:89:1
 returns-4 : tie.Need-returns-4
-returns-4 c = ?
+returns-4 c =
+    let temperature = c .before .before .before in
+    rw (
+      le-leb _ _ (temperature .before .before .if1 .left),
+      sym (temperature .before .is-temperature .ensures) ∙ not-false _ (temperature .if2 .left),
+      le-leb _ _ (c .before .if3 .left),
+    )
 
 pub is-legal-spec : {M : Type 1} → statement M
 is-legal-spec = tie.close (tie.spec returns is-temperature-requires returns-2 returns-3 returns-4)

@@ -1,43 +1,47 @@
+-- `with_days` meets its contract. The invariant: what is left of the days decides.
+use Prim.Native.Nat.{_-_}
+use native.Mathlib.Omega.{arith}
+use mathlib.Core.Path.{_≡_, refl, sym, _∙_}
+use borrow.Author.Needs.{needs}
+use Rattle.schedule.specs.Entries.{withDays}
+use Rattle.schedule.specs.Spans.{daysFrom}
+use Rattle.schedule.proofs.Spans.{days-turn, days-end}
 use Rattle.schedule.proofs.with_days.Statement.{statement}
 use Rattle.schedule.proofs.with_days.Tie as tie
-use Rattle.schedule.proofs.with_days.Reads as reads
-use Rattle.schedule.proofs.with_days.Lts as lts
-use Rattle.schedule.proofs.place_of.Reads as place-of-reads
-use Rattle.schedule.proofs.with_entry.Reads as with-entry-reads
 
 abbrev Inv-loop : tie.InvT-loop
-Inv-loop first end period new all₀ day₀ all day = ?
+Inv-loop first end period new all₀ day₀ all day = withDays all₀ (daysFrom (end - first) first) period new ≡ withDays all (daysFrom (end - day) day) period new
 
 abbrev μ-loop : tie.MeasureT-loop
-μ-loop first end period new all₀ day₀ all day = ?
+μ-loop first end period new all₀ day₀ all day = end - day
 
--- src/lib.rt:153:5
 loop-holds : tie.Need-loop-holds Inv-loop μ-loop
-loop-holds c = ?
+loop-holds c = refl
 
--- src/lib.rt:154:36
 place-of-requires : tie.Need-place-of-requires Inv-loop μ-loop
-place-of-requires c κs = ?
+place-of-requires c κs = search needs
 
--- src/lib.rt:154:13
 with-entry-requires : tie.Need-with-entry-requires Inv-loop μ-loop
-with-entry-requires c κs = ?
+with-entry-requires c κs = search needs
 
--- src/lib.rt:156:9
 add-day : tie.Need-add-day Inv-loop μ-loop
-add-day c = ?
+add-day c = omega arith
 
--- src/lib.rt:153:5
 loop-less : tie.Need-loop-less Inv-loop μ-loop
-loop-less c = ?
+loop-less c = omega arith
 
--- src/lib.rt:153:5
 loop-again : tie.Need-loop-again Inv-loop μ-loop
-loop-again c = ?
+loop-again c =
+    let at = c .before .before .before in
+    let args = at .before .args in
+    at .loop .inv
+    ∙ days-turn (at .loop .all) (at .loop .day) (args .end) (args .period) (args .new) (omega arith)
+    ∙ rw (c .with-entry .ensures, c .before .place-of .ensures)
 
--- src/lib.rt:148:1
 returns : tie.Need-returns Inv-loop μ-loop
-returns c = ?
+returns c =
+    let args = c .before .before .args in
+    sym (c .before .loop .inv ∙ days-end (c .before .loop .all) (c .before .loop .day) (args .end) (args .period) (args .new) (omega arith))
 
 pub with-days-spec : {M : Type 1} → statement M
 with-days-spec =

@@ -1,0 +1,20 @@
+-- Entries that are legal, one by one and all of them.
+use Prim.Native.Nat.{ℕ, _+_, _≤_, _<_}
+use native.Mathlib.Numerals.{add-one}
+use mathlib.Core.Bool.{true, _&&_}
+use mathlib.Core.List.{List, [], _∷_}
+use mathlib.Core.Path.{_≡_, refl}
+use lib.ListN.{length, getD, drop, drop-of-length-le}
+use lib.Seq.{drop-cons}
+use Rattle.schedule.specs.declared.Entry.{Entry}
+use Rattle.schedule.specs.Entries.{legal, lowest, allLegal}
+
+-- the entries from an index on: the one there and those behind it, or none
+pub legal-turn : (entries : List Entry) (index : ℕ) → index < length entries
+    → allLegal (drop index entries) ≡ (legal (getD entries index lowest) && allLegal (drop (index + 1) entries))
+unfolding allLegal
+legal-turn entries index h = rw (drop-cons entries index lowest, add-one)
+
+pub legal-end : (entries : List Entry) (index : ℕ) → length entries ≤ index → allLegal (drop index entries) ≡ true
+unfolding allLegal
+legal-end entries index h = rw (drop-of-length-le entries h)
