@@ -2,17 +2,19 @@
 use Prim.Native.Nat.{ℕ, suc, _+_, _-_, _≤_, _<_}
 use native.Mathlib.Numerals.{add-one}
 use native.Mathlib.Omega.{arith}
-use mathlib.Core.Bool.{Bool, true, false, not}
+use mathlib.Core.Bool.{Bool, true, false, cond, not, _&&_, and-false}
 use mathlib.Core.List.{List, [], _∷_}
-use mathlib.Core.Path.{_≡_, refl, ap, sym, _∙_, subst}
+use mathlib.Core.Path.{_≡_, refl, ap, subst}
+use borrow.Author.Tests.{eqb-true}
 use lib.Dec.{eqb}
-use lib.ListN.{getD, set}
+use lib.ListN.{length, getD, set}
 use Rattle.schedule.specs.declared.Entry.{Entry}
 use Rattle.schedule.specs.declared.Span.{Span}
 use Rattle.schedule.specs.declared.Span.the-variants.{Until, Nothing}
-use Rattle.schedule.specs.Days.{isDay, isEmpty, isWritable, firstDay, daysOf}
+use Rattle.schedule.specs.Days.{isDay, isPeriod, isEmpty, isWritable, firstDay, daysOf}
 use Rattle.schedule.specs.Entries.{placeOf, withDays}
-use Rattle.schedule.specs.Spans.{spanOf, daysFrom}
+use Rattle.schedule.specs.Operations.{dayIn, periodIn, writes}
+use Rattle.schedule.specs.Spans.{spanOf, spanIn, daysFrom}
 
 -- the days from a first until before an end: the first and those behind it, or none
 more-days : (first end : ℕ) → first < end → daysFrom (end - first) first ≡ first ∷ daysFrom (end - (first + 1)) (first + 1)
@@ -36,6 +38,9 @@ days-turn entries first end period new h = rw (more-days first end h)
 pub days-end : (entries : List Entry) (first end period : ℕ) (new : Entry) → end ≤ first → withDays entries (daysFrom (end - first) first) period new ≡ entries
 unfolding withDays
 days-end entries first end period new h = rw (no-days first end h)
+
+not-nothing : (first end : ℕ) → Nothing ≡ Until first end → ⊥
+not-nothing first end e = let z : _≡_ {A = ℕ} 0 1 = cc in omega arith
 
 -- a span that has these days
 abbrev pub Spans : Span → List ℕ → Type 0
@@ -68,19 +73,31 @@ spans day = all (eqb day 0) refl
                 one true h = rw (e, f, g, h) (one-day day, refl, refl)
                 one false h = rw (e, f, g, h) refl
 
--- what a span found says of the written day
-module _ (day first end : ℕ) (found : spanOf day ≡ Until first end) where
-  found-spans : Spans (Until first end) (daysOf day)
-  found-spans = subst (λ (s : Span). Spans s (daysOf day)) found (spans day)
-
-  pub found-days : daysOf day ≡ daysFrom (end - first) first
-  found-days = found-spans .0
-
-  pub found-first : firstDay day ≡ first
-  found-first = found-spans .1
-
-  pub found-writable : isWritable day ≡ true
-  found-writable = ap not (found-spans .2)
-
-pub not-writable : (day : ℕ) → spanOf day ≡ Nothing → isWritable day ≡ false
+not-writable : (day : ℕ) → spanOf day ≡ Nothing → isWritable day ≡ false
 not-writable day e = ap not (subst (λ (s : Span). Spans s (daysOf day)) e (spans day))
+
+-- what a span that a value has says of it
+pub record Found (value : List ℕ) (first end : ℕ) : Type 0 where
+  pub sized : length value ≡ 6
+  pub written : writes value ≡ true
+  pub days : daysOf (dayIn value) ≡ daysFrom (end - first) first
+  pub begins : firstDay (dayIn value) ≡ first
+
+pub found : (value : List ℕ) (first end : ℕ) → spanIn value ≡ Until first end → Found value first end
+found value first end = choose (eqb (length value) 6) (isPeriod (periodIn value)) refl refl
+  where
+    choose : (a b : Bool) → eqb (length value) 6 ≡ a → isPeriod (periodIn value) ≡ b → cond (a && b) (spanOf (dayIn value)) Nothing ≡ Until first end
+        → Found value first end
+    choose true true p q e =
+        let these : Spans (Until first end) (daysOf (dayIn value)) = subst (λ (s : Span). Spans s (daysOf (dayIn value))) e (spans (dayIn value)) in
+        record { sized = eqb-true (length value) 6 p; written = rw (p, q, these .2); days = these .0; begins = these .1 }
+    choose true false p q e = absurd (not-nothing first end e)
+    choose false b p q e = absurd (not-nothing first end e)
+
+pub not-found : (value : List ℕ) → spanIn value ≡ Nothing → writes value ≡ false
+not-found value = choose (eqb (length value) 6) (isPeriod (periodIn value))
+  where
+    choose : (a b : Bool) → cond (a && b) (spanOf (dayIn value)) Nothing ≡ Nothing → (a && isWritable (dayIn value) && b) ≡ false
+    choose true true e = rw (not-writable (dayIn value) e)
+    choose true false e = and-false (isWritable (dayIn value))
+    choose false b e = refl

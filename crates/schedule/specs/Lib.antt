@@ -1,5 +1,5 @@
 pub mod Days
-pub mod Spans
 pub mod Entries
 pub mod Operations
+pub mod Spans
 pub mod Laws

@@ -2,13 +2,13 @@
 use store::WholeDegrees;
 ghost use Prim.Native.Nat.{_-_};
 ghost use mathlib.Core.Path.{_≡_};
-ghost use lib.ListN.{set};
+ghost use lib.ListN.{length, set};
 ghost use Rattle.store.specs.Sets.{between};
 ghost use Rattle.schedule.specs.Days.{isDay, isPeriod};
 ghost use Rattle.schedule.specs.Entries.{isTemperature, legal, lowest as lowestEntry, placeOf, entryAt, withDays};
 ghost use Rattle.schedule.specs.Entries.{start as startOf, sound as soundOf};
-ghost use Rattle.schedule.specs.Operations.{askedBy, addressedBy, answered, reportOf, written};
-ghost use Rattle.schedule.specs.Spans.{spanOf, daysFrom};
+ghost use Rattle.schedule.specs.Operations.{entryIn, askedBy, addressedBy, answered, reportOf, written};
+ghost use Rattle.schedule.specs.Spans.{spanOf, spanIn, daysFrom};
 
 const ENTRIES: usize = 28;
 
@@ -101,6 +101,32 @@ fn is_legal(entry: Entry) -> bool
     entry.hour <= 23
 }
 
+// The days that a value writes; none where it is no value of a write.
+fn span_in(value: &[u8]) -> Span
+    ensures { λ r. ⌜ r ≡ spanIn (now (value .entry)) ⌝ }
+{
+    if value.len() != 6 {
+        return Span::Nothing;
+    }
+    if !is_period(value[1]) {
+        return Span::Nothing;
+    }
+    span_of(value[0])
+}
+
+// The entry that a value writes.
+fn entry_in(value: &[u8]) -> Entry
+    requires { ⌜ length (now value) ≡ 6 ⌝ }
+    ensures { λ r. ⌜ r ≡ entryIn (now (value .entry)) ⌝ }
+{
+    Entry {
+        speed: value[2],
+        temperature: WholeDegrees { degrees: value[3] },
+        minute: value[4],
+        hour: value[5],
+    }
+}
+
 // Where the entry of a day and a period stands.
 fn place_of(day: u8, period: u8) -> usize
     ensures { λ r. ⌜ r ≡ placeOf day period ⌝ }
@@ -180,17 +206,13 @@ fn asked(value: &[u8]) -> Answer
 fn addressed(value: &[u8]) -> Answer
     ensures { λ r. ⌜ r ≡ addressedBy (now (value .entry)) ⌝ }
 {
-    if value.len() != 6 {
-        return Answer::Unknown;
-    }
-    let Span::Until { first, end: _ } = span_of(value[0]) else {
+    let Span::Until { first, end: _ } = span_in(value) else {
         return Answer::Unknown;
     };
-    let period = value[1];
-    if !is_period(period) {
-        return Answer::Unknown;
+    Answer::Entry {
+        day: first,
+        period: value[1],
     }
-    Answer::Entry { day: first, period }
 }
 
 // What a command of the schedule is answered with.
@@ -225,28 +247,16 @@ pub fn report(schedule: Schedule, day: u8, period: u8) -> [u8; 6]
 pub fn write(schedule: Schedule, value: &[u8]) -> Schedule
     ensures { λ r. ⌜ r ≡ written schedule (now (value .entry)) ⌝ }
 {
-    if value.len() != 6 {
-        return schedule;
-    }
-    let Span::Until { first, end } = span_of(value[0]) else {
+    let Span::Until { first, end } = span_in(value) else {
         return schedule;
     };
-    let period = value[1];
-    if !is_period(period) {
-        return schedule;
-    }
-    let entry = Entry {
-        speed: value[2],
-        temperature: WholeDegrees { degrees: value[3] },
-        minute: value[4],
-        hour: value[5],
-    };
+    let entry = entry_in(value);
     if !is_legal(entry) {
         return schedule;
     }
     let entries = schedule.entries;
     Schedule {
-        entries: with_days(entries, first, end, period, entry),
+        entries: with_days(entries, first, end, value[1], entry),
     }
 }
 

@@ -3,6 +3,7 @@ use Prim.Native.Nat.{_≤_}
 use native.Mathlib.Omega.{arith}
 use mathlib.Core.Path.{_≡_, sym, _∙_}
 use lib.ListN.{length, List·getD-eq-default}
+use Rattle.schedule.proofs.Lengths.{unmapped}
 use Rattle.schedule.specs.Entries.{lowest, entryCount, placeOf}
 use borrow.Author.Needs.{needs}
 use Rattle.schedule.proofs.entry_at.Statement.{statement}
@@ -26,7 +27,7 @@ lowest-requires c κs = search needs
 returns-2 : tie.Need-returns-2
 returns-2 c =
     let start = c .before .before .before .before .args in
-    let sized : length (start .schedule .entries) ≡ entryCount = search needs in
+    let sized : length (start .schedule .entries) ≡ entryCount = search (needs, unmapped) in
     let past : length (start .schedule .entries) ≤ placeOf (start .day) (start .period) = omega arith in
     c .lowest .ensures ∙ sym (List·getD-eq-default (start .schedule .entries) lowest past)
 

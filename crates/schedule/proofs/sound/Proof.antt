@@ -5,6 +5,7 @@ use mathlib.Core.Bool.{Bool, _&&_}
 use mathlib.Core.Path.{_≡_, refl, sym, ap, _∙_}
 use borrow.Author.Needs.{needs}
 use lib.ListN.{length, drop}
+use Rattle.schedule.proofs.Lengths.{unmapped}
 use Rattle.schedule.specs.Entries.{entryCount, allLegal}
 use Rattle.schedule.proofs.Soundness.{legal-turn, legal-end}
 use Rattle.schedule.proofs.sound.Statement.{statement}
@@ -38,7 +39,7 @@ loop-again : tie.Need-loop-again Inv-loop μ-loop
 loop-again c =
     let at = c .before .before .before .before in
     let entries = at .before .before .args .schedule .entries in
-    let sized : length entries ≡ entryCount = search needs in
+    let sized : length entries ≡ entryCount = search (needs, unmapped) in
     let within : at .loop .index < length entries = omega arith in (
       omega arith,
       at .loop .inv .1
@@ -50,7 +51,7 @@ returns : tie.Need-returns Inv-loop μ-loop
 returns c =
     let at = c .before .before .before .before in
     let entries = at .before .before .args .schedule .entries in
-    let sized : length entries ≡ entryCount = search needs in
+    let sized : length entries ≡ entryCount = search (needs, unmapped) in
     let within : at .loop .index < length entries = omega arith in
     sym
     (at .loop .inv .1
@@ -60,7 +61,7 @@ returns c =
 returns-2 : tie.Need-returns-2 Inv-loop μ-loop
 returns-2 c =
     let entries = c .before .before .before .args .schedule .entries in
-    let sized : length entries ≡ entryCount = search needs in
+    let sized : length entries ≡ entryCount = search (needs, unmapped) in
     let past : length entries ≤ c .before .loop .index = omega arith in
     sym (c .before .loop .inv .1 ∙ legal-end entries (c .before .loop .index) past)
 
