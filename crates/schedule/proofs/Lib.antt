@@ -1,3 +1,5 @@
 pub mod Lengths
 pub mod Spans
+pub mod Writing
 pub mod Soundness
+pub mod Laws

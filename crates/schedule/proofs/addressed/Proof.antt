@@ -1,33 +1,38 @@
+-- `addressed` meets its contract.
+use native.Mathlib.Omega.{arith}
+use mathlib.Core.Path.{sym, _∙_}
+use denote.Ref.{now}
+use Rattle.schedule.proofs.Spans.{found, not-found}
 use borrow.Author.Needs.{needs}
 use Rattle.schedule.proofs.addressed.Statement.{statement}
 use Rattle.schedule.proofs.addressed.Tie as tie
-use Rattle.schedule.proofs.addressed.Reads as reads
-use Rattle.schedule.proofs.addressed.Lts as lts
-use Rattle.schedule.proofs.span_in.Reads as span-in-reads
 
--- src/lib.rt:196:41
 span-in-requires : tie.Need-span-in-requires
 span-in-requires c κs = search needs
 
--- src/lib.rt:196:23
 enum-known-first : tie.Need-enum-known-first
 enum-known-first c = search needs
 
--- src/lib.rt:197:9
 enum-told : tie.Need-enum-told
 enum-told c = search needs
 
--- src/lib.rt:197:9
 returns : tie.Need-returns
-returns c = ?
+returns c =
+    let span = c .before .before in
+    rw (not-found (now (span .before .before .args .value)) (sym (span .span-in .ensures) ∙ c .enum-told .given .1))
 
--- src/lib.rt:201:17
 shared-slice-read-t5 : tie.Need-shared-slice-read-t5
-shared-slice-read-t5 c = ?
+shared-slice-read-t5 c =
+    let first = c .before .before in
+    let span = first .before .before in
+    omega (arith, found (now (span .before .before .args .value)) _ _ (sym (span .span-in .ensures) ∙ first .first .given .1) .sized)
 
--- src/lib.rt:193:1
 returns-2 : tie.Need-returns-2
-returns-2 c = ?
+returns-2 c =
+    let first = c .before .before in
+    let span = first .before .before in
+    let these = found (now (span .before .before .args .value)) _ _ (sym (span .span-in .ensures) ∙ first .first .given .1) in
+    rw (these .written, these .begins)
 
 pub addressed-spec : {M : Type 1} → statement M
 addressed-spec =

@@ -1,38 +1,36 @@
+-- `span_in` meets its contract.
+use mathlib.Core.Path.{sym, _∙_}
+use borrow.Author.Tests.{eq-eqb, ne-eqb, not-true, not-false}
 use borrow.Author.Needs.{needs}
 use Rattle.schedule.proofs.span_in.Statement.{statement}
 use Rattle.schedule.proofs.span_in.Tie as tie
-use Rattle.schedule.proofs.span_in.Reads as reads
-use Rattle.schedule.proofs.span_in.Lts as lts
-use Rattle.schedule.proofs.is_period.Reads as is-period-reads
-use Rattle.schedule.proofs.span_of.Reads as span-of-reads
 
--- src/lib.rt:109:9
 returns : tie.Need-returns
-returns c = ?
+returns c = simp (ne-eqb _ _ (c .if1 .taken))
 
--- src/lib.rt:111:19
 shared-slice-read-is-period : tie.Need-shared-slice-read-is-period
 shared-slice-read-is-period c = search needs
 
--- src/lib.rt:111:9
 is-period-requires : tie.Need-is-period-requires
 is-period-requires c κs = search needs
 
--- src/lib.rt:112:9
 returns-2 : tie.Need-returns-2
-returns-2 c = ?
+returns-2 c =
+    simp (eq-eqb _ _ (c .before .before .before .if1 .left), sym (c .before .is-period .ensures) ∙ not-true _ (c .if2 .taken))
 
--- src/lib.rt:114:13
 shared-slice-read-span-of : tie.Need-shared-slice-read-span-of
 shared-slice-read-span-of c = search needs
 
--- src/lib.rt:114:5
 span-of-requires : tie.Need-span-of-requires
 span-of-requires c κs = search needs
 
--- src/lib.rt:105:1
 returns-3 : tie.Need-returns-3
-returns-3 c = ?
+returns-3 c =
+    let period = c .before .before in
+    simp (
+      eq-eqb _ _ (period .before .before .before .if1 .left),
+      sym (period .before .is-period .ensures) ∙ not-false _ (period .if2 .left),
+    ) (c .span-of .ensures)
 
 pub span-in-spec : {M : Type 1} → statement M
 span-in-spec =

@@ -1,52 +1,64 @@
+-- `write` meets its contract.
+use native.Mathlib.Omega.{arith}
+use mathlib.Core.Path.{sym, _∙_}
+use denote.Ref.{now}
+use borrow.Author.Tests.{not-true, not-false}
+use Rattle.schedule.proofs.Spans.{found, not-found}
+use Rattle.schedule.proofs.Writing.{not-written, not-legal, stored}
 use borrow.Author.Needs.{needs}
 use Rattle.schedule.proofs.write.Statement.{statement}
 use Rattle.schedule.proofs.write.Tie as tie
-use Rattle.schedule.proofs.write.Reads as reads
-use Rattle.schedule.proofs.write.Lts as lts
-use Rattle.schedule.proofs.entry_in.Reads as entry-in-reads
-use Rattle.schedule.proofs.is_legal.Reads as is-legal-reads
-use Rattle.schedule.proofs.span_in.Reads as span-in-reads
-use Rattle.schedule.proofs.with_days.Reads as with-days-reads
 
--- src/lib.rt:250:38
 span-in-requires : tie.Need-span-in-requires
 span-in-requires c κs = search needs
 
--- src/lib.rt:250:23
 enum-known-first : tie.Need-enum-known-first
 enum-known-first c = search needs
 
--- src/lib.rt:251:9
 enum-told : tie.Need-enum-told
 enum-told c = search needs
 
--- src/lib.rt:251:9
 returns : tie.Need-returns
-returns c = ?
+returns c =
+    let span = c .before .before in
+    let start = span .before .before .args in
+    not-written (start .schedule) (now (start .value)) (not-found (now (start .value)) (sym (span .span-in .ensures) ∙ c .enum-told .given .1))
 
--- src/lib.rt:253:9
 entry-in-requires : tie.Need-entry-in-requires
-entry-in-requires c κs = ?
+entry-in-requires c κs =
+    let span = c .before .before .before in
+    found (now (span .before .before .args .value)) _ _ (sym (span .span-in .ensures) ∙ c .before .first .given .1) .sized
 
--- src/lib.rt:254:9
 is-legal-requires : tie.Need-is-legal-requires
 is-legal-requires c κs = search needs
 
--- src/lib.rt:255:9
 returns-2 : tie.Need-returns-2
-returns-2 c = ?
+returns-2 c =
+    let entry = c .before .before in
+    let first = entry .before .before in
+    let span = first .before .before in
+    let start = span .before .before .args in
+    not-legal (start .schedule) (now (start .value)) (rw (entry .entry-in .ensures) at (sym (c .before .is-legal .ensures) ∙ not-true _ (c .if1 .taken)))
 
--- src/lib.rt:259:49
 shared-slice-read-with-days : tie.Need-shared-slice-read-with-days
-shared-slice-read-with-days c = ?
+shared-slice-read-with-days c =
+    let first = c .before .before .before .before .before .before in
+    let span = first .before .before in
+    omega (arith, found (now (span .before .before .args .value)) _ _ (sym (span .span-in .ensures) ∙ first .first .given .1) .sized)
 
--- src/lib.rt:259:18
 with-days-requires : tie.Need-with-days-requires
 with-days-requires c κs = search needs
 
--- src/lib.rt:247:1
 returns-3 : tie.Need-returns-3
-returns-3 c = ?
+returns-3 c =
+    let legal = c .before .before .before in
+    let entry = legal .before .before in
+    let first = entry .before .before in
+    let span = first .before .before in
+    let start = span .before .before .args in
+    stored (start .schedule) (now (start .value)) (found _ _ _ (sym (span .span-in .ensures) ∙ first .first .given .1))
+    (rw (entry .entry-in .ensures) at (sym (legal .before .is-legal .ensures) ∙ not-false _ (legal .if1 .left)))
+    (c .with-days .ensures ∙ rw (entry .entry-in .ensures))
 
 pub write-spec : {M : Type 1} → statement M
 write-spec =
