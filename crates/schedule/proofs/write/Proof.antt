@@ -58,7 +58,7 @@ returns-3 c =
     let start = span .before .before .args in
     stored (start .schedule) (now (start .value)) (found _ _ _ (sym (span .span-in .ensures) ∙ first .first .given .1))
     (rw (entry .entry-in .ensures) at (sym (legal .before .is-legal .ensures) ∙ not-false _ (legal .if1 .left)))
-    (c .with-days .ensures ∙ rw (entry .entry-in .ensures))
+    (rw (entry .entry-in .ensures) at (c .with-days .ensures))
 
 pub write-spec : {M : Type 1} → statement M
 write-spec =
