@@ -1,19 +1,19 @@
 -- The laws of the schedule's operations.
-use Prim.Native.Nat.{ℕ, suc, _≤_, _<_}
+use Prim.Native.Nat.{ℕ, _≤_}
 use native.Mathlib.Omega.{arith}
 use mathlib.Core.Bool.{Bool, true, false, cond, _&&_, _||_, and-false}
 use mathlib.Core.List.{List, [], _∷_}
-use mathlib.Core.Path.{_≡_, refl, sym, ap, _∙_, subst}
+use mathlib.Core.Path.{_≡_, refl, ap, _∙_}
 use borrow.Author.Tests.{eq-eqb, eqb-true, eqb-false, leb-true}
 use lib.Dec.{eqb, leb}
-use lib.ListN.{length, getD, set, drop, length-set, length-replicate, drop-of-length-le}
+use lib.ListN.{length, getD, set, drop, length-set, drop-of-length-le}
 use lib.Seq.{drop-cons, getD-set-same, getD-set-other}
 use Rattle.octets.proofs.Booleans.{both-true}
 use Rattle.store.specs.Sets.{between}
 use Rattle.schedule.specs.declared.Entry.{Entry}
 use Rattle.schedule.specs.declared.Schedule.{Schedule}
 use Rattle.schedule.specs.Days.{isDay, isPeriod, daysOf, isWritable, contains}
-use Rattle.schedule.specs.Entries.{legal, bytesOf, lowest, entryCount, placeOf, entryAt, withDays, start, allLegal, sound}
+use Rattle.schedule.specs.Entries.{legal, bytesOf, lowest, entryCount, placeOf, entryAt, withDays, allLegal, sound}
 use Rattle.schedule.specs.Operations.{dayIn, periodIn, entryIn, writes, stores, written}
 use Rattle.schedule.specs.Laws.{Sized, isFor, WriteExact, ReadBack, SizeKept, SoundKept, StartSized, StartSound}
 use Rattle.schedule.proofs.Spans.{contained-days}
@@ -52,7 +52,9 @@ kept-at day period d p =
 -- the entry at a day and a period, once another stands at a day and a period
 module _ (entries : List Entry) (new : Entry) (sized : length entries ≡ entryCount) (written day period other : ℕ) (at : Kept written period) (asked : Kept day other) where
   set-there : written ≡ day → period ≡ other → getD (set entries (placeOf written period) new) (placeOf day other) lowest ≡ new
-  set-there d p = rw (d, p) (getD-set-same entries (placeOf day other) new lowest (omega arith))
+  set-there d p =
+      let same : placeOf written period ≡ placeOf day other = omega arith in
+      rw same (getD-set-same entries (placeOf day other) new lowest (omega arith))
 
   set-elsewhere : (written ≡ day → period ≡ other → ⊥) → getD (set entries (placeOf written period) new) (placeOf day other) lowest ≡ getD entries (placeOf day other) lowest
   set-elsewhere differ =

@@ -1,7 +1,7 @@
 -- What a command of the schedule's parameter makes of the entries, and what it is answered with. Its value begins with a day and a period.
 use Prim.Native.Nat.{ℕ}
 use mathlib.Core.Bool.{Bool, cond, _&&_}
-use mathlib.Core.List.{List, [], _∷_}
+use mathlib.Core.List.{List, _∷_}
 use lib.Dec.{eqb}
 use lib.ListN.{length, getD}
 use Rattle.schedule.specs.Days.{isDay, isPeriod, daysOf, isWritable, firstDay}
