@@ -1,7 +1,7 @@
 -- The laws of the schedule's operations.
 use Prim.Native.Nat.{ℕ, _≤_}
 use native.Mathlib.Omega.{arith}
-use mathlib.Core.Bool.{Bool, true, false, cond, _&&_, _||_, and-false}
+use mathlib.Core.Bool.{Bool, true, false, cond, _&&_, _||_, and-false, or-true}
 use mathlib.Core.List.{List, [], _∷_}
 use mathlib.Core.Path.{_≡_, refl, ap, _∙_}
 use borrow.Author.Tests.{eq-eqb, eqb-true, eqb-false, leb-true}
@@ -14,7 +14,7 @@ use Rattle.schedule.specs.declared.Entry.{Entry}
 use Rattle.schedule.specs.declared.Schedule.{Schedule}
 use Rattle.schedule.specs.Days.{isDay, isPeriod, daysOf, isWritable, contains}
 use Rattle.schedule.specs.Entries.{legal, bytesOf, lowest, entryCount, placeOf, entryAt, withDays, allLegal, sound}
-use Rattle.schedule.specs.Operations.{dayIn, periodIn, entryIn, writes, stores, written}
+use Rattle.schedule.specs.Operations.{dayIn, periodIn, entryIn, writes, stores, withEntryIn, written}
 use Rattle.schedule.specs.Laws.{Sized, isFor, WriteExact, ReadBack, SizeKept, SoundKept, StartSized, StartSound}
 use Rattle.schedule.proofs.Spans.{contained-days}
 use Rattle.schedule.proofs.Soundness.{legal-set}
@@ -36,21 +36,21 @@ within low high number e =
     let parts = both-true (leb low number) (leb number high) e in
     (leb-true low number (parts .0), leb-true number high (parts .1))
 
--- an entry of a day and a period
-record Kept (day period : ℕ) : Type 0 where
+-- where a day and a period lie
+record Bounds (day period : ℕ) : Type 0 where
   day-low : 1 ≤ day
   day-high : day ≤ 7
   period-low : 1 ≤ period
   period-high : period ≤ 4
 
-kept-at : (day period : ℕ) → isDay day ≡ true → isPeriod period ≡ true → Kept day period
-kept-at day period d p =
+bounds : (day period : ℕ) → isDay day ≡ true → isPeriod period ≡ true → Bounds day period
+bounds day period d p =
     let day-bounds = within 1 7 day d in
     let period-bounds = within 1 4 period p in
     record { day-low = day-bounds .0; day-high = day-bounds .1; period-low = period-bounds .0; period-high = period-bounds .1 }
 
 -- the entry at a day and a period, once another stands at a day and a period
-module _ (entries : List Entry) (new : Entry) (sized : length entries ≡ entryCount) (written day period other : ℕ) (at : Kept written period) (asked : Kept day other) where
+module _ (entries : List Entry) (new : Entry) (sized : length entries ≡ entryCount) (written day period other : ℕ) (at : Bounds written period) (asked : Bounds day other) where
   set-there : written ≡ day → period ≡ other → getD (set entries (placeOf written period) new) (placeOf day other) lowest ≡ new
   set-there d p =
       let same : placeOf written period ≡ placeOf day other = omega arith in
@@ -79,18 +79,14 @@ abbrev Days : List ℕ → Type 0
 Days days = (day : ℕ) → contains days day ≡ true → isDay day ≡ true
 
 days-at : (days : List ℕ) (entries : List Entry) (period : ℕ) (new : Entry) (day other : ℕ)
-    → length entries ≡ entryCount → Days days → isPeriod period ≡ true → Kept day other
+    → length entries ≡ entryCount → Days days → isPeriod period ≡ true → Bounds day other
     → getD (withDays entries days period new) (placeOf day other) lowest
     ≡ cond (contains days day && eqb period other) new (getD entries (placeOf day other) lowest)
 unfolding withDays contains
 days-at [] entries period new day other sized each p asked = refl
 days-at (first ∷ rest) entries period new day other sized each p asked =
     days-at rest (set entries (placeOf first period) new) period new day other (length-set entries (placeOf first period) new ∙ sized) (λ d h. each d (rw h (or-true (eqb first d)))) p asked
-    ∙ set-turn entries new sized first day period other (kept-at first period (each first (rw (eq-eqb first first refl))) p) asked (contains rest day)
-  where
-    or-true : (b : Bool) → (b || true) ≡ true
-    or-true true = refl
-    or-true false = refl
+    ∙ set-turn entries new sized first day period other (bounds first period (each first (rw (eq-eqb first first refl))) p) asked (contains rest day)
 
 -- what a value has whose entry is stored
 record Stored (value : List ℕ) : Type 0 where
@@ -106,11 +102,10 @@ stored value e =
 
 -- what holds of a schedule, and of it with the entry stored, holds after a write
 kept : (P : Schedule → Type 0) (schedule : Schedule) (value : List ℕ) → P schedule
-    → (Stored value → P (record { entries = withDays (schedule .entries) (daysOf (dayIn value)) (periodIn value) (entryIn value) })) → P (written schedule value)
+    → (Stored value → P (withEntryIn schedule value)) → P (written schedule value)
 kept P schedule value p q = choose (stores value) refl
   where
-    choose : (b : Bool) → stores value ≡ b
-        → P (cond b (record { entries = withDays (schedule .entries) (daysOf (dayIn value)) (periodIn value) (entryIn value) }) schedule)
+    choose : (b : Bool) → stores value ≡ b → P (cond b (withEntryIn schedule value) schedule)
     choose true e = q (stored value e)
     choose false e = p
 
@@ -127,10 +122,10 @@ pub write-exact : WriteExact
 write-exact schedule value day period sized d p = choose (stores value) refl
   where
     choose : (b : Bool) → stores value ≡ b
-        → entryAt (cond b (record { entries = withDays (schedule .entries) (daysOf (dayIn value)) (periodIn value) (entryIn value) }) schedule) day period
+        → entryAt (cond b (withEntryIn schedule value) schedule) day period
         ≡ cond (b && isFor value day period) (entryIn value) (entryAt schedule day period)
     choose true e =
-        days-at (daysOf (dayIn value)) (schedule .entries) (periodIn value) (entryIn value) day period sized (contained-days (dayIn value)) (stored value e .period) (kept-at day period d p)
+        days-at (daysOf (dayIn value)) (schedule .entries) (periodIn value) (entryIn value) day period sized (contained-days (dayIn value)) (stored value e .period) (bounds day period d p)
     choose false e = refl
 
 -- the bytes of a value of six behind its first

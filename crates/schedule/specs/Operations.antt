@@ -56,7 +56,10 @@ reportOf schedule day period = day ∷ period ∷ bytesOf (entryAt schedule day 
 abbrev pub stores : List ℕ → Bool
 stores value = writes value && legal (entryIn value)
 
+-- with a value's entry on each day written
+abbrev pub withEntryIn : Schedule → List ℕ → Schedule
+withEntryIn schedule value = record { entries = withDays (schedule .entries) (daysOf (dayIn value)) (periodIn value) (entryIn value) }
+
 -- the schedule after 02 or 03
 abbrev pub written : Schedule → List ℕ → Schedule
-written schedule value =
-    cond (stores value) (record { entries = withDays (schedule .entries) (daysOf (dayIn value)) (periodIn value) (entryIn value) }) schedule
+written schedule value = cond (stores value) (withEntryIn schedule value) schedule
