@@ -9,7 +9,7 @@ use lib.Dec.{eqb, leb}
 use lib.ListN.{length, getD, set, drop, length-set, drop-of-length-le}
 use lib.Seq.{drop-cons, getD-set-same, getD-set-other}
 use Rattle.octets.proofs.Booleans.{both-true}
-use Rattle.store.specs.Sets.{between}
+use Rattle.octets.specs.Octets.{between}
 use Rattle.schedule.specs.declared.Entry.{Entry}
 use Rattle.schedule.specs.declared.Schedule.{Schedule}
 use Rattle.schedule.specs.Days.{isDay, isPeriod, daysOf, isWritable, contains}

@@ -4,7 +4,7 @@ use mathlib.Core.Bool.{Bool, true, false, cond, not, _||_}
 use mathlib.Core.List.{List, [], _∷_}
 use lib.Dec.{eqb}
 use lib.ListN.{getD}
-use Rattle.store.specs.Sets.{between}
+use Rattle.octets.specs.Octets.{between}
 
 -- Monday is 1, Sunday 7
 abbrev pub isDay : ℕ → Bool

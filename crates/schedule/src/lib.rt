@@ -2,8 +2,7 @@
 use store::WholeDegrees;
 ghost use Prim.Native.Nat.{_-_};
 ghost use mathlib.Core.Path.{_≡_};
-ghost use lib.ListN.{length, set};
-ghost use Rattle.store.specs.Sets.{between};
+ghost use lib.ListN.{set};
 ghost use Rattle.schedule.specs.Days.{isDay, isPeriod};
 ghost use Rattle.schedule.specs.Entries.{isTemperature, legal, lowest as lowestEntry, placeOf, entryAt, withDays};
 ghost use Rattle.schedule.specs.Entries.{start as startOf, sound as soundOf};
@@ -55,25 +54,16 @@ fn span_of(day: u8) -> Span
     }
 }
 
-fn is_between(low: u8, high: u8, number: u8) -> bool
-    ensures { λ r. ⌜ r ≡ between low high number ⌝ }
-{
-    if number < low {
-        return false;
-    }
-    number <= high
-}
-
 fn is_day(day: u8) -> bool
     ensures { λ r. ⌜ r ≡ isDay day ⌝ }
 {
-    is_between(1, 7, day)
+    octets::is_between(1, 7, day)
 }
 
 fn is_period(period: u8) -> bool
     ensures { λ r. ⌜ r ≡ isPeriod period ⌝ }
 {
-    is_between(1, 4, period)
+    octets::is_between(1, 4, period)
 }
 
 fn is_temperature(temperature: WholeDegrees) -> bool
@@ -83,7 +73,7 @@ fn is_temperature(temperature: WholeDegrees) -> bool
     if degrees == 0 {
         return true;
     }
-    is_between(15, 30, degrees)
+    octets::is_between(15, 30, degrees)
 }
 
 fn is_legal(entry: Entry) -> bool
@@ -116,14 +106,15 @@ fn span_in(value: &[u8]) -> Span
 
 // The entry that a value writes.
 fn entry_in(value: &[u8]) -> Entry
-    requires { ⌜ length (now value) ≡ 6 ⌝ }
     ensures { λ r. ⌜ r ≡ entryIn (now (value .entry)) ⌝ }
 {
     Entry {
-        speed: value[2],
-        temperature: WholeDegrees { degrees: value[3] },
-        minute: value[4],
-        hour: value[5],
+        speed: octets::byte_at(value, 2),
+        temperature: WholeDegrees {
+            degrees: octets::byte_at(value, 3),
+        },
+        minute: octets::byte_at(value, 4),
+        hour: octets::byte_at(value, 5),
     }
 }
 

@@ -7,9 +7,10 @@ use mathlib.Core.Path.{_≡_, refl, ap, _∙_}
 use lib.Dec.{eqb}
 use lib.ListN.{length, getD, drop, drop-of-length-le}
 use lib.Seq.{drop-cons}
+use Rattle.octets.specs.Octets.{between}
 use Rattle.store.specs.declared.Store.{Store}
 use Rattle.store.specs.Rows.{Set, Switch, Number, Text, Free, Clock, Calendar, Row, rows, noRow}
-use Rattle.store.specs.Sets.{between, printable, member}
+use Rattle.store.specs.Sets.{printable, member}
 use Rattle.store.specs.Layout.{rowCount, setAt, valueAt}
 use Rattle.store.specs.Columns.{kindOf}
 use Rattle.store.specs.Operations.{inverts}

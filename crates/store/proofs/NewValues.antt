@@ -10,11 +10,12 @@ use borrow.Author.Tests.{eq-eqb, eqb-true, leb-true, ltb-true, not-true}
 use lib.Dec.{eqb, leb, ltb}
 use lib.ListN.{length, getD, take, drop, replicate}
 use lib.Seq.{take-all, take-at}
+use Rattle.octets.specs.Octets.{between}
 use Rattle.store.specs.declared.Measurement.the-variants.{Accepted, NotMeasured, WrongLength}
 use Rattle.store.specs.declared.Range.{Range}
 use Rattle.store.specs.declared.Store.{Store}
 use Rattle.store.specs.Rows.{Set, Switch, Number, Text, Free, Clock, Calendar, Row, rows, rowOf, allows, known, isIdentity, indexOf}
-use Rattle.store.specs.Sets.{numberOf, bytesOf, between, inRange, greatest, printable, isClock, isCalendar, member, leastAbove, greatestBelow}
+use Rattle.store.specs.Sets.{numberOf, bytesOf, inRange, greatest, printable, isClock, isCalendar, member, leastAbove, greatestBelow}
 use Rattle.store.specs.Layout.{sizeOf, isText, filled, toRoom, fromRoom, valueOf}
 use Rattle.store.specs.Columns.{kindOf}
 use Rattle.store.specs.Operations.{inverts, inverse, neighbour, measurable, accepted}

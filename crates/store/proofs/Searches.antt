@@ -7,8 +7,9 @@ use mathlib.Core.Option.{none, some}
 use mathlib.Core.Path.{_≡_, refl, sym, ap, _∙_}
 use borrow.Author.Tests.{eqb-true, leb-true, lt-ltb, le-ltb}
 use lib.Dec.{eqb, leb}
+use Rattle.octets.specs.Octets.{between}
 use Rattle.store.specs.declared.Range.{Range}
-use Rattle.store.specs.Sets.{between, inRange, greatest, leastAbove, greatestBelow, firstAfter, firstBefore}
+use Rattle.store.specs.Sets.{inRange, greatest, leastAbove, greatestBelow, firstAfter, firstBefore}
 use Rattle.store.specs.Laws.{Least, Greatest}
 use Rattle.store.proofs.Bools.{both, either, not-both, no-value}
 use Rattle.store.proofs.Tables.{in-or-past}

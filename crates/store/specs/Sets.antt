@@ -5,6 +5,7 @@ use mathlib.Core.List.{List, [], _∷_}
 use mathlib.Core.Option.{Option, none, some}
 use lib.Dec.{eqb, leb, ltb}
 use lib.ListN.{length, getD, take}
+use Rattle.octets.specs.Octets.{between}
 use Rattle.store.specs.declared.Range.{Range}
 use Rattle.store.specs.Rows.{Set, Switch, Number, Text, Free, Clock, Calendar}
 
@@ -15,9 +16,6 @@ numberOf value = getD value 0 0 + 256 * getD value 1 0
 -- a number in one or two bytes, low byte first
 abbrev pub bytesOf : ℕ → ℕ → List ℕ
 bytesOf size x = take size (x % 256 ∷ x / 256 % 256 ∷ [])
-
-abbrev pub between : ℕ → ℕ → ℕ → Bool
-between low high x = leb low x && leb x high
 
 abbrev pub inRange : Range → ℕ → Bool
 inRange r x = eqb x (r .extra) || between (r .low) (r .high) x && eqb ((x - r .low) % r .step) 0

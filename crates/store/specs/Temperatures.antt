@@ -5,6 +5,7 @@ use mathlib.Core.List.{List, [], _∷_}
 use lib.Dec.{eqb, ltb}
 use lib.IntN.{ℤ, pos, negsuc}
 use lib.ListN.{getD}
+use Rattle.octets.specs.Octets.{between}
 use Rattle.store.specs.declared.Placed.{Placed}
 use Rattle.store.specs.declared.Placing.the-variants.{Stored, OtherRow}
 use Rattle.store.specs.declared.Store.{Store}
@@ -12,7 +13,7 @@ use Rattle.store.specs.declared.Temperature.{Temperature}
 use Rattle.store.specs.declared.Temperature.the-variants.{InTenths, InDegrees, SensorMissing, ShortCircuit, NotTemperature}
 use Rattle.store.specs.declared.Tenths.{Tenths}
 use Rattle.store.specs.declared.WholeDegrees.{WholeDegrees}
-use Rattle.store.specs.Sets.{between, numberOf, bytesOf}
+use Rattle.store.specs.Sets.{numberOf, bytesOf}
 use Rattle.store.specs.Layout.{valueIn, withValue}
 
 -- the rows of measured temperatures, and those of setpoints

@@ -1,7 +1,7 @@
 // Values in the store's bytes: reading the room of a row, and filling it.
 ghost use mathlib.Core.Path.{_≡_};
 ghost use Prim.Native.Nat.{_+_, _≤_};
-ghost use lib.ListN.{length, getD, take, drop};
+ghost use lib.ListN.{length, take, drop};
 ghost use Rattle.store.specs.Layout.{storeSize, longest, filled, overwritten, isText, setAt, valueAt, withValueAt};
 use crate::Store;
 use crate::columns::kind_at;
@@ -10,16 +10,6 @@ use crate::columns::size_at;
 
 // No value is longer.
 const LONGEST: usize = 64;
-
-// The byte at a place, or 0 past the end.
-pub fn byte_at(bytes: &[u8], at: usize) -> u8
-    ensures { λ r. ⌜ r ≡ getD (now (bytes .entry)) at 0 ⌝ }
-{
-    if at < bytes.len() {
-        return bytes[at];
-    }
-    0
-}
 
 // The bytes from a place on, at most so many.
 pub fn part(bytes: &[u8], from: usize, count: usize) -> &[u8]
@@ -49,7 +39,7 @@ pub fn value_at(bytes: &[u8], index: usize) -> &[u8]
     let place = place_at(index);
     let size = size_at(index);
     if is_text(index) {
-        let length = octets::wide(byte_at(bytes, place));
+        let length = octets::wide(octets::byte_at(bytes, place));
         let room = part(bytes, place + 1, size);
         return part(room, 0, length);
     }

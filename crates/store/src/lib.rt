@@ -20,7 +20,6 @@ use columns::allows;
 use columns::index_of;
 use columns::kind_at;
 use columns::size_at;
-use layout::byte_at;
 use layout::part;
 use layout::value_at;
 use layout::with_value_at;
@@ -135,7 +134,7 @@ fn inverts(index: usize, value: &[u8]) -> bool
 fn inverse(held: &[u8]) -> u8
     ensures { λ r. ⌜ r ∷ [] ≡ inverseOf (now (held .entry)) ⌝ }
 {
-    if byte_at(held, 0) == 0 {
+    if octets::byte_at(held, 0) == 0 {
         return 1;
     }
     0
@@ -293,7 +292,7 @@ pub fn read_temperature(bytes: &[u8], number: u16) -> Temperature
         return read_measured(value);
     }
     if is_whole(number) {
-        let degrees = byte_at(value, 0);
+        let degrees = octets::byte_at(value, 0);
         return Temperature::InDegrees(WholeDegrees { degrees });
     }
     Temperature::NotTemperature

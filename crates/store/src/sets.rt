@@ -3,16 +3,16 @@ ghost use mathlib.Core.Bool.{cond};
 ghost use mathlib.Core.Path.{_≡_};
 ghost use Prim.Native.Nat.{_<_};
 ghost use lib.ListN.{getD};
+ghost use Rattle.octets.specs.Octets.{between};
 ghost use Rattle.store.specs.Rows.{Switch, Number, Text, Clock, Calendar};
 ghost use Rattle.store.specs.Layout.{setAt};
-ghost use Rattle.store.specs.Sets.{numberOf, between, inRange, printable, threeFields, member, greatest as greatestOf, leastAbove, greatestBelow};
+ghost use Rattle.store.specs.Sets.{numberOf, inRange, printable, threeFields, member, greatest as greatestOf, leastAbove, greatestBelow};
 ghost use Rattle.store.specs.Columns.{rangeOf};
 ghost use Rattle.store.specs.Next.{nextOf};
 use crate::Range;
 use crate::columns::kind_at;
 use crate::columns::range_at;
 use crate::columns::size_at;
-use crate::layout::byte_at;
 
 // What lies next to a number in a range.
 pub enum Next {
@@ -30,25 +30,16 @@ fn wide(byte: u8) -> u16
 pub fn number_of(value: &[u8]) -> u16
     ensures { λ r. ⌜ r ≡ numberOf (now (value .entry)) ⌝ }
 {
-    let low = wide(byte_at(value, 0));
-    let high = wide(byte_at(value, 1));
+    let low = wide(octets::byte_at(value, 0));
+    let high = wide(octets::byte_at(value, 1));
     low + 256 * high
-}
-
-fn is_between(low: u8, high: u8, byte: u8) -> bool
-    ensures { λ r. ⌜ r ≡ between low high byte ⌝ }
-{
-    if byte < low {
-        return false;
-    }
-    byte <= high
 }
 
 // Whether the byte at a place lies between two bounds.
 fn field(value: &[u8], at: usize, low: u8, high: u8) -> bool
     ensures { λ r. ⌜ r ≡ between low high (getD (now (value .entry)) at 0) ⌝ }
 {
-    is_between(low, high, byte_at(value, at))
+    octets::is_between(low, high, octets::byte_at(value, at))
 }
 
 fn in_range(range: Range, number: u16) -> bool
@@ -72,7 +63,7 @@ fn is_printable(value: &[u8]) -> bool
 {
     let mut i: usize = 0;
     while i < value.len() {
-        if is_between(0x20, 0x7E, value[i]) {
+        if octets::is_between(0x20, 0x7E, value[i]) {
             i += 1;
         } else {
             return false;

@@ -9,7 +9,6 @@ use crate::Temperature;
 use crate::Tenths;
 use crate::WholeDegrees;
 use crate::columns::index_of;
-use crate::layout::byte_at;
 use crate::layout::value_at;
 use crate::layout::with_value_at;
 use crate::sets::number_of;
@@ -108,7 +107,7 @@ pub fn store_value(store: Store, number: u16, value: &[u8]) -> Store
         return next;
     };
     let whole = WholeDegrees {
-        degrees: byte_at(value, 0),
+        degrees: octets::byte_at(value, 0),
     };
     let set = store_degrees(store, number, whole);
     let answer = set.answer;

@@ -25,9 +25,7 @@ returns c =
     not-written (start .schedule) (now (start .value)) (not-found (now (start .value)) (sym (span .span-in .ensures) ∙ c .enum-told .given .1))
 
 entry-in-requires : tie.Need-entry-in-requires
-entry-in-requires c κs =
-    let span = c .before .before .before in
-    found (now (span .before .before .args .value)) _ _ (sym (span .span-in .ensures) ∙ c .before .first .given .1) .sized
+entry-in-requires c κs = search needs
 
 is-legal-requires : tie.Need-is-legal-requires
 is-legal-requires c κs = search needs

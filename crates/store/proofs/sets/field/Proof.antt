@@ -2,7 +2,7 @@
 use Prim.Native.Nat.{ℕ}
 use mathlib.Core.Path.{ap, _∙_}
 use borrow.Author.Needs.{needs}
-use Rattle.store.specs.Sets.{between}
+use Rattle.octets.specs.Octets.{between}
 use Rattle.store.proofs.sets.field.Statement.{statement}
 use Rattle.store.proofs.sets.field.Tie as tie
 
