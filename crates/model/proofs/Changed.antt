@@ -6,218 +6,388 @@ use mathlib.Core.Option.{Option, none, some}
 use mathlib.Core.Path.{_≡_, refl, sym, ap, _∙_}
 use borrow.Author.Tests.{eq-eqb, eqb-true, not-true, not-false}
 use lib.Dec.{leb, eqb}
-use lib.ListN.{length, replicate}
+use lib.ListN.{length, drop, replicate}
 use lib.Seq.{take-at}
 use Rattle.octets.specs.Octets.{same}
 use Rattle.octets.proofs.Booleans.{both-true}
 use Rattle.framing.specs.Identity.{allAlphanumeric, defaultId}
 use Rattle.framing.specs.Refusal.{firstRefusal}
 use Rattle.framing.proofs.Refusals.{not-refused}
-use Rattle.block.specs.Command.{Command, commandNumber, Report}
+use Rattle.block.specs.Command.{Command, commandNumber, Report, held}
 use Rattle.block.specs.Encoding.{every}
 use Rattle.block.specs.Reading.{isSome}
-use Rattle.store.specs.Laws.{Operation, Write, Raise, Lower, Measure, newValue, after, Sized}
+use Rattle.store.specs.Laws.{Operation, Write, Raise, Lower, Measure, newValue, after}
 use Rattle.store.specs.Layout.{roomOf, valueOf, setAt, fromRoom, sizeOf}
 use Rattle.store.specs.Operations.{measurable, affected}
-use Rattle.store.specs.Rows.{isIdentity, indexOf, known, rowOf}
+use Rattle.store.specs.Rows.{isIdentity, rows as table, indexIn, indexOf, known, rowOf}
+use Rattle.store.specs.Laws as laws
 use Rattle.store.specs.Sound as rows
 use Rattle.store.specs.declared.Answer.the-variants.{Value, Unknown, Silence}
+use Rattle.store.specs.declared.Answer.{Answer}
 use Rattle.store.specs.declared.Store.{Store}
 use Rattle.store.proofs.Laws.{size-kept, others-kept, identity-kept, read-back, sound-kept, start-sized, start-sound, start-identity}
-use Rattle.model.specs.Changes.{operationOf, mayChange, noneChanges, SameIdentity, Legal, ValuesReported, CommandRuns, PacketsChange, MeasurementsChange, SetUpsLegal}
-use Rattle.model.specs.Commands.{afterCommand, reportAs, reported, run, runReports, discoverReports}
+use Rattle.schedule.specs.Days.{isDay, isPeriod, daysOf, contains}
+use Rattle.schedule.specs.Entries as entries
+use Rattle.schedule.specs.Entries.{entryAt}
+use Rattle.schedule.specs.Laws.{isFor}
+use Rattle.schedule.specs.Operations.{scheduleNumber, dayIn, periodIn, entryIn, answered, stores, written, reportOf}
+use Rattle.schedule.specs.declared.Answer.{Answer as Answered}
+use Rattle.schedule.specs.declared.Entry.{Entry}
+use Rattle.schedule.specs.declared.Schedule.{Schedule}
+use Rattle.schedule.proofs.Laws as schedule
+use Rattle.model.specs.Changes.{operationOf, mayChange, noneChanges, storesEntry, noneStores, SameIdentity, Sized, Legal, ValuesReported, OthersLeft, EntriesReadBack, CommandRuns, PacketsChange, MeasurementsChange, SetUpsLegal}
+use Rattle.model.specs.Commands.{isSchedule, isWrite, afterRow, afterEntry, afterCommand, rowReport, entryReport, reported, run, runReports, discoverReports}
 use Rattle.model.specs.Measurement.{MeasureCall, measureRefusals, measureRefusal, measuredBy, measuredBoard}
-use Rattle.model.specs.Record.{isId, micra, withStore, SetUp, setUpRefusals, setUpRefusal, startBoard, unset, boardOf, setUpBoard, sound}
+use Rattle.model.specs.Record.{isId, micra, parametersOf, withParameters, SetUp, setUpRefusals, setUpRefusal, startBoard, unset, boardOf, setUpBoard, sound}
 use Rattle.model.specs.Step.{Call, request, isDiscovery, commandsOf, stepRefusal, step}
 use Rattle.model.specs.declared.Board.{Board}
+use Rattle.model.specs.declared.Parameters.{Parameters}
 use Rattle.model.proofs.Soundness.{SoundParts, sound-parts, parts-sound}
 use Rattle.model.proofs.StepRefusals.{answered-board, on-step}
 
--- a command does its operation
+-- a command of a row does its operation
 abbrev done : Option Operation → Store → ℕ → Store
 done none store n = store
 done (some operation) store n = after operation store n
 
-command-done : (store : Store) (c : Command) → afterCommand store c ≡ done (operationOf c) store (commandNumber c)
+command-done :
+    (p : Parameters) (c : Command)
+    → afterCommand p c
+    ≡ cond (isSchedule c) (parametersOf (p .store) (afterEntry (p .schedule) c)) (parametersOf (done (operationOf c) (p .store) (commandNumber c)) (p .schedule))
 unfolding afterCommand
-command-done store c = by-function (eqb (c .function) 2 || eqb (c .function) 3) (eqb (c .function) 4) (eqb (c .function) 5)
+command-done p c =
+    ap (λ (s : Store). cond (isSchedule c) (parametersOf (p .store) (afterEntry (p .schedule) c)) (parametersOf s (p .schedule)))
+    (by-function (isWrite c) (eqb (c .function) 4) (eqb (c .function) 5))
   where
     by-function :
         (writes raises lowers : Bool)
-        → cond writes (after (Write (c .value)) store (commandNumber c))
-        (cond raises (after Raise store (commandNumber c)) (cond lowers (after Lower store (commandNumber c)) store))
-        ≡ done (cond writes (some (Write (c .value))) (cond raises (some Raise) (cond lowers (some Lower) none))) store (commandNumber c)
+        → cond writes (after (Write (c .value)) (p .store) (commandNumber c))
+        (cond raises (after Raise (p .store) (commandNumber c)) (cond lowers (after Lower (p .store) (commandNumber c)) (p .store)))
+        ≡ done (cond writes (some (Write (c .value))) (cond raises (some Raise) (cond lowers (some Lower) none))) (p .store) (commandNumber c)
     by-function true raises lowers = refl
     by-function false true lowers = refl
     by-function false false true = refl
     by-function false false false = refl
 
-run-join : (before behind : List Command) (store : Store) → run store (before ++ behind) ≡ run (run store before) behind
+pub others-left : OthersLeft
+unfolding afterCommand
+others-left p c = record { rows = λ h. rw h; entries = λ h. rw h }
+
+entries-written : (p : Parameters) (c : Command) → isSchedule c ≡ true → isWrite c ≡ true → afterCommand p c .schedule ≡ written (p .schedule) (c .value)
+unfolding afterCommand
+entries-written p c named writes = rw (named, writes)
+
+-- a read leaves the parameters as they were
+pub read-keeps : (p : Parameters) (c : Command) → c .function ≡ 1 → afterCommand p c ≡ p
+unfolding afterCommand
+read-keeps p c e = rw e (by-number (isSchedule c))
+  where
+    by-number : (is-schedule : Bool) → cond is-schedule p p ≡ p
+    by-number true = refl
+    by-number false = refl
+
+run-join : (before behind : List Command) (p : Parameters) → run p (before ++ behind) ≡ run (run p before) behind
 unfolding run
-run-join [] behind store = refl
-run-join (c ∷ before) behind store = run-join before behind (afterCommand store c)
+run-join [] behind p = refl
+run-join (c ∷ before) behind p = run-join before behind (afterCommand p c)
 
 reports-join :
-    (before : List Command) (command : Command) (behind : List Command) (store : Store)
-    → runReports store (before ++ command ∷ behind)
-    ≡ runReports store before ++ reported (run store (before ++ command ∷ [])) command ++ runReports (run store (before ++ command ∷ [])) behind
+    (before : List Command) (command : Command) (behind : List Command) (p : Parameters)
+    → runReports p (before ++ command ∷ behind)
+    ≡ runReports p before ++ reported (run p (before ++ command ∷ [])) command ++ runReports (run p (before ++ command ∷ [])) behind
 unfolding run runReports
-reports-join [] command behind store = refl
-reports-join (c ∷ before) command behind store =
-    ap (λ (rs : List Report). reported (afterCommand store c) c ++ rs) (reports-join before command behind (afterCommand store c)) ∙ simp append-assoc
+reports-join [] command behind p = refl
+reports-join (c ∷ before) command behind p =
+    ap (λ (rs : List Report). reported (afterCommand p c) c ++ rs) (reports-join before command behind (afterCommand p c)) ∙ simp append-assoc
+
+-- no row has the schedule's number
+known-row : (n : ℕ) → known n ≡ true → eqb n scheduleNumber ≡ false
+unfolding table indexIn
+known-row n h = by-number (eqb n scheduleNumber) refl
+  where
+    no-row : known scheduleNumber ≡ false
+    no-row = refl
+
+    by-number : (is-schedule : Bool) → eqb n scheduleNumber ≡ is-schedule → is-schedule ≡ false
+    by-number true e = let named : known n ≡ false = ap known (eqb-true n scheduleNumber e) ∙ no-row in cc
+    by-number false e = refl
 
 pub values-reported : ValuesReported
 unfolding reported
-values-reported store c =
-    let report : Bool → Bool → List Report = λ silent row. reportAs (cond silent Silence (cond row Value Unknown)) store c in
+values-reported p c =
+    let report : Bool → Bool → Bool → List Report = λ is-schedule silent row.
+    cond is-schedule (entryReport (answered (c .function) (c .value)) (p .schedule) c) (rowReport (cond silent Silence (cond row Value Unknown)) (p .store) c) in
+    let rows : Bool = known (commandNumber c) in
     record {
-      silence = λ two. ap (λ (silent : Bool). report silent (known (commandNumber c))) two;
-      value = λ other row. λ i. report (other i) (row i);
-      mark = λ other row. λ i. report (other i) (row i);
+      silence = λ two. by-number two (isSchedule c);
+      value = λ other row. λ i. report (known-row (commandNumber c) row i) (other i) (row i);
+      entry = λ h. ap (λ (is-schedule : Bool). report is-schedule (eqb (c .function) 2) rows) h;
+      mark = λ other row h. λ i. report (h i) (other i) (row i);
     }
+  where
+    by-number :
+        eqb (c .function) 2 ≡ true → (is-schedule : Bool)
+        → cond is-schedule (entryReport (answered (c .function) (c .value)) (p .schedule) c)
+        (rowReport (cond (eqb (c .function) 2) Silence (cond (known (commandNumber c)) Value Unknown)) (p .store) c)
+        ≡ []
+    by-number two true = ap (λ (f : ℕ). entryReport (answered f (c .value)) (p .schedule) c) (eqb-true (c .function) 2 two)
+    by-number two false = rw two
 
-same-identity : (board : Board) (store : Store) → SameIdentity board (withStore board store)
-same-identity board store = record { id = refl; password = refl; size = refl; mode = refl }
+same-identity : (board : Board) (p : Parameters) → SameIdentity board (withParameters board p)
+same-identity board p = record { id = refl; password = refl; size = refl; mode = refl }
 
 same-room : (left right : Store) (n : ℕ) → roomOf left n ≡ roomOf right n → valueOf left n ≡ valueOf right n
 same-room left right n e = ap (fromRoom (setAt (indexOf n))) e
 
--- what each operation that a command may do keeps, the command keeps
-on-command :
-    (P : Store → Type 0) (store : Store) (c : Command) → P store
-    → ((operation : Operation) → operationOf c ≡ some operation → P (after operation store (commandNumber c))) → P (afterCommand store c)
-on-command P store c unchanged changed = rw command-done (by-operation (operationOf c) refl)
+-- what a row's operation and a write of the schedule keep, a command keeps
+pub on-command :
+    (P : Parameters → Type 0) (p : Parameters) (c : Command) → P p
+    → ((operation : Operation) → operationOf c ≡ some operation → P (parametersOf (after operation (p .store) (commandNumber c)) (p .schedule)))
+    → (isSchedule c ≡ true → isWrite c ≡ true → P (parametersOf (p .store) (written (p .schedule) (c .value)))) → P (afterCommand p c)
+on-command P p c unchanged changed entered = rw command-done (by-number (isSchedule c) refl)
   where
-    by-operation : (o : Option Operation) → operationOf c ≡ o → P (done o store (commandNumber c))
+    by-operation : (o : Option Operation) → operationOf c ≡ o → P (parametersOf (done o (p .store) (commandNumber c)) (p .schedule))
     by-operation none e = unchanged
     by-operation (some operation) e = changed operation e
 
+    by-write : isSchedule c ≡ true → (writes : Bool) → isWrite c ≡ writes → P (parametersOf (p .store) (cond writes (written (p .schedule) (c .value)) (p .schedule)))
+    by-write h true e = entered h e
+    by-write h false e = unchanged
+
+    by-number :
+        (is-schedule : Bool) → isSchedule c ≡ is-schedule
+        → P (cond is-schedule (parametersOf (p .store) (afterEntry (p .schedule) c)) (parametersOf (done (operationOf c) (p .store) (commandNumber c)) (p .schedule)))
+    by-number true e = by-write e (isWrite c) refl
+    by-number false e = by-operation (operationOf c) refl
+
+pub sized-after : (p : Parameters) (c : Command) → Sized p → Sized (afterCommand p c)
+sized-after p c sized =
+    on-command Sized p c sized
+    (λ operation e. record { store = size-kept operation (p .store) (commandNumber c) (sized .store); schedule = sized .schedule })
+    (λ named writes. record { store = sized .store; schedule = schedule.size-kept (p .schedule) (c .value) (sized .schedule) })
+
 -- and a list of such commands
 run-keeps :
-    (P : Store → Type 0) (test : Command → Bool)
-    → ((operation : Operation) (store : Store) (c : Command) → test c ≡ true → operationOf c ≡ some operation → Sized store → P store
-    → P (after operation store (commandNumber c)))
-    → (cs : List Command) (store : Store) → every test cs ≡ true → Sized store → P store → Sized (run store cs) × P (run store cs)
+    (P : Parameters → Type 0) (test : Command → Bool) → ((p : Parameters) (c : Command) → test c ≡ true → Sized p → P p → P (afterCommand p c))
+    → (cs : List Command) (p : Parameters) → every test cs ≡ true → Sized p → P p → Sized (run p cs) × P (run p cs)
 unfolding run every
-run-keeps P test kept [] store h sized p = (sized, p)
-run-keeps P test kept (c ∷ cs) store h sized p =
+run-keeps P test kept [] p h sized so-far = (sized, so-far)
+run-keeps P test kept (c ∷ cs) p h sized so-far =
     let both : (test c ≡ true) × (every test cs ≡ true) = both-true (test c) (every test cs) h in
-    run-keeps P test kept cs (afterCommand store c) (both .1)
-    (on-command Sized store c sized (λ operation e. size-kept operation store (commandNumber c) sized))
-    (on-command P store c p (λ operation e. kept operation store c (both .0) e sized p))
+    run-keeps P test kept cs (afterCommand p c) (both .1) (sized-after p c sized) (kept p c (both .0) sized so-far)
 
-run-others : (n : ℕ) (cs : List Command) (store : Store) → noneChanges n cs ≡ true → Sized store → roomOf (run store cs) n ≡ roomOf store n
-run-others n cs store h sized =
-    run-keeps (λ (s : Store). roomOf s n ≡ roomOf store n) (λ (c : Command). not (mayChange n c)) kept cs store h sized refl .1
+run-others :
+    (n : ℕ) (cs : List Command) (p : Parameters) → noneChanges n cs ≡ true → Sized p → roomOf (run p cs .store) n ≡ roomOf (p .store) n
+run-others n cs p h sized =
+    run-keeps (λ (q : Parameters). roomOf (q .store) n ≡ roomOf (p .store) n) (λ (c : Command). not (mayChange n c)) kept cs p h sized refl .1
   where
     kept :
-        (operation : Operation) (s : Store) (c : Command) → not (mayChange n c) ≡ true → operationOf c ≡ some operation → Sized s
-        → roomOf s n ≡ roomOf store n → roomOf (after operation s (commandNumber c)) n ≡ roomOf store n
-    kept operation s c unaffected e sized p =
+        (q : Parameters) (c : Command) → not (mayChange n c) ≡ true → Sized q → roomOf (q .store) n ≡ roomOf (p .store) n
+        → roomOf (afterCommand q c .store) n ≡ roomOf (p .store) n
+    kept q c unaffected size so-far =
+        on-command (λ (r : Parameters). roomOf (r .store) n ≡ roomOf (p .store) n) q c so-far
+        (λ operation e.
         let other : affected (commandNumber c) n ≡ false =
         ap (λ (o : Option Operation). isSome o && affected (commandNumber c) n) (sym e) ∙ not-true (mayChange n c) unaffected in
-        others-kept operation s (commandNumber c) n sized other ∙ p
+        others-kept operation (q .store) (commandNumber c) n (size .store) other ∙ so-far)
+        (λ named writes. so-far)
 
--- a store of a sound record with this ID
-record LegalStore (id : List ℕ) (store : Store) : Type 0 where
-  held : rows.sound store ≡ true
-  own-id : valueOf store 0x007C ≡ id
-  unit-type : valueOf store 0x00B9 ≡ micra
+module _ (day period : ℕ) (is-day : isDay day ≡ true) (is-period : isPeriod period ≡ true) where
+  run-entries :
+      (cs : List Command) (p : Parameters) → noneStores day period cs ≡ true → Sized p
+      → entryAt (run p cs .schedule) day period ≡ entryAt (p .schedule) day period
+  run-entries cs p h sized =
+      run-keeps (λ (q : Parameters). entryAt (q .schedule) day period ≡ entryAt (p .schedule) day period)
+      (λ (c : Command). not (storesEntry day period c)) kept cs p h sized refl .1
+    where
+      kept :
+          (q : Parameters) (c : Command) → not (storesEntry day period c) ≡ true → Sized q
+          → entryAt (q .schedule) day period ≡ entryAt (p .schedule) day period
+          → entryAt (afterCommand q c .schedule) day period ≡ entryAt (p .schedule) day period
+      kept q c unaffected size so-far =
+          on-command (λ (r : Parameters). entryAt (r .schedule) day period ≡ entryAt (p .schedule) day period) q c so-far (λ operation e. so-far)
+          (λ named writes.
+          let other : (stores (c .value) && isFor (c .value) day period) ≡ false =
+          (λ i. sym named i && sym writes i && (stores (c .value) && isFor (c .value) day period)) ∙ not-true (storesEntry day period c) unaffected in
+          schedule.write-exact (q .schedule) (c .value) day period (size .schedule) is-day is-period ∙ rw other so-far)
+
+  entry-stored :
+      (p : Parameters) (c : Command) → Sized p → storesEntry day period c ≡ true → entryAt (afterCommand p c .schedule) day period ≡ entryIn (c .value)
+  entry-stored p c sized h =
+      let both = both-true (isSchedule c && isWrite c) _ h in
+      let named = both-true (isSchedule c) (isWrite c) (both .0) in
+      ap (λ (s : Schedule). entryAt s day period) (entries-written p c (named .0) (named .1))
+      ∙ schedule.write-exact (p .schedule) (c .value) day period (sized .schedule) is-day is-period
+      ∙ rw (both .1)
+
+pub entries-read-back : EntriesReadBack
+unfolding run
+entries-read-back p write read day sized written-number writes kept on-day read-number reads asked =
+    let back = schedule.read-back (p .schedule) (write .value) day (sized .schedule) kept on-day in
+    let left : run p (write ∷ read ∷ []) .schedule ≡ written (p .schedule) (write .value) =
+    ap (λ (q : Parameters). q .schedule) (read-keeps (afterCommand p write) read reads) ∙ entries-written p write written-number writes in
+    values-reported (run p (write ∷ read ∷ [])) read .entry read-number
+    ∙ (λ i. entryReport (answered (reads i) (asked i)) (left i) read)
+    ∙ ap (λ (a : Answered). entryReport a (written (p .schedule) (write .value)) read) (back .0)
+    ∙ ap (λ (v : List ℕ). held (read .page) (read .low) v ∷ []) (back .1)
+
+-- parameters of a sound record with this ID
+record LegalParameters (id : List ℕ) (p : Parameters) : Type 0 where
+  held : rows.sound (p .store) ≡ true
+  scheduled : entries.sound (p .schedule) ≡ true
+  own-id : valueOf (p .store) 0x007C ≡ id
+  unit-type : valueOf (p .store) 0x00B9 ≡ micra
 
 value-kept :
-    (operation : Operation) (store : Store) (n other : ℕ) → isIdentity other ≡ true → Sized store
+    (operation : Operation) (store : Store) (n other : ℕ) → isIdentity other ≡ true → laws.Sized store
     → valueOf (after operation store n) other ≡ valueOf store other
 value-kept operation store n other h sized = same-room _ _ other (identity-kept operation store n other sized h)
 
-after-legal : {id : List ℕ} (operation : Operation) (store : Store) (n : ℕ) → Sized store → LegalStore id store → LegalStore id (after operation store n)
-after-legal operation store n sized legal =
+operation-legal :
+    {id : List ℕ} (operation : Operation) (p : Parameters) (n : ℕ) → Sized p → LegalParameters id p
+    → LegalParameters id (parametersOf (after operation (p .store) n) (p .schedule))
+operation-legal operation p n sized legal =
     record {
-      held = sound-kept operation store n sized (legal .held);
-      own-id = value-kept operation store n 0x007C refl sized ∙ legal .own-id;
-      unit-type = value-kept operation store n 0x00B9 refl sized ∙ legal .unit-type;
+      held = sound-kept operation (p .store) n (sized .store) (legal .held);
+      scheduled = legal .scheduled;
+      own-id = value-kept operation (p .store) n 0x007C refl (sized .store) ∙ legal .own-id;
+      unit-type = value-kept operation (p .store) n 0x00B9 refl (sized .store) ∙ legal .unit-type;
     }
+
+legal-after : {id : List ℕ} (p : Parameters) (c : Command) → Sized p → LegalParameters id p → LegalParameters id (afterCommand p c)
+legal-after {id} p c sized legal =
+    on-command (LegalParameters id) p c legal (λ operation e. operation-legal operation p (commandNumber c) sized legal)
+    (λ named writes.
+    record {
+      held = legal .held;
+      scheduled = schedule.sound-kept (p .schedule) (c .value) (legal .scheduled);
+      own-id = legal .own-id;
+      unit-type = legal .unit-type;
+    })
 
 every-command : (cs : List Command) → every (λ (c : Command). true) cs ≡ true
 unfolding every
 every-command [] = refl
 every-command (c ∷ cs) = every-command cs
 
-run-legal : {id : List ℕ} (cs : List Command) (store : Store) → Sized store → LegalStore id store → Sized (run store cs) × LegalStore id (run store cs)
-run-legal {id} cs store sized legal =
-    run-keeps (LegalStore id) (λ (c : Command). true) (λ operation s c h e. after-legal operation s (commandNumber c)) cs store (every-command cs) sized legal
+run-legal :
+    {id : List ℕ} (cs : List Command) (p : Parameters) → Sized p → LegalParameters id p → Sized (run p cs) × LegalParameters id (run p cs)
+run-legal {id} cs p = run-keeps (LegalParameters id) (λ (c : Command). true) (λ q c h. legal-after q c) cs p (every-command cs)
 
-store-of : {board : Board} → SoundParts board → LegalStore (board .id) (board .store)
-store-of parts = record { held = parts .held; own-id = parts .own-id; unit-type = parts .unit-type }
+parameters-of : {board : Board} → SoundParts board → LegalParameters (board .id) (board .parameters)
+parameters-of parts = record { held = parts .held; scheduled = parts .scheduled; own-id = parts .own-id; unit-type = parts .unit-type }
 
-legal-with : (board : Board) (store : Store) → SoundParts board → Sized store × LegalStore (board .id) store → Legal (withStore board store)
-legal-with board store parts legal =
+legal-with : (board : Board) (p : Parameters) → SoundParts board → Sized p × LegalParameters (board .id) p → Legal (withParameters board p)
+legal-with board p parts legal =
     record {
       is-sound =
-          parts-sound (withStore board store)
+          parts-sound (withParameters board p)
           (record {
             id = parts .id;
             size = parts .size;
             password = parts .password;
             mode = parts .mode;
             held = legal .1 .held;
+            scheduled = legal .1 .scheduled;
             own-id = legal .1 .own-id;
             unit-type = legal .1 .unit-type;
           });
       sized = legal .0;
     }
 
-run-sized : (cs : List Command) (store : Store) → Sized store → Sized (run store cs)
-run-sized cs store sized =
-    run-keeps Sized (λ (c : Command). true) (λ operation s c h e sized p. size-kept operation s (commandNumber c) p) cs store (every-command cs) sized sized .0
+run-sized : (cs : List Command) (p : Parameters) → Sized p → Sized (run p cs)
+run-sized cs p sized = run-keeps Sized (λ (c : Command). true) (λ q c h size so-far. sized-after q c size) cs p (every-command cs) sized sized .0
 
-held-after :
-    (store : Store) (before : List Command) (command : Command) (behind : List Command) (operation : Operation) (value : List ℕ)
-    → Sized store → operationOf command ≡ some operation → newValue operation (run store before) (commandNumber command) ≡ some value
-    → noneChanges (commandNumber command) behind ≡ true → valueOf (run store (before ++ command ∷ behind)) (commandNumber command) ≡ value
-unfolding run
-held-after store before command behind operation value sized e stored h =
-    let n : ℕ = commandNumber command in
-    let sized-before : Sized (run store before) = run-sized before store sized in
-    let at-command : afterCommand (run store before) command ≡ after operation (run store before) n =
-    command-done (run store before) command ∙ ap (λ (o : Option Operation). done o (run store before) n) e in
-    let sized-after : Sized (after operation (run store before) n) = size-kept operation (run store before) n sized-before in
-    ap (λ (s : Store). valueOf s n) (run-join before (command ∷ behind) store ∙ ap (λ (s : Store). run s behind) at-command)
-    ∙ same-room _ _ n (run-others n behind (after operation (run store before) n) h sized-after)
-    ∙ read-back operation (run store before) n value sized-before stored
+-- what a row's operation stores is for a row
+stored-row : (operation : Operation) (store : Store) (n : ℕ) (value : List ℕ) → newValue operation store n ≡ some value → eqb n scheduleNumber ≡ false
+unfolding table indexIn
+stored-row operation store n value e = by-number (eqb n scheduleNumber) refl
+  where
+    none-stored : (o : Operation) → newValue o store scheduleNumber ≡ none
+    none-stored (Write v) = refl
+    none-stored Raise = refl
+    none-stored Lower = refl
+    none-stored (Measure v) = refl
+
+    by-number : (is-schedule : Bool) → eqb n scheduleNumber ≡ is-schedule → is-schedule ≡ false
+    by-number true h = let nothing : newValue operation store n ≡ none = ap (newValue operation store) (eqb-true n scheduleNumber h) ∙ none-stored operation in cc
+    by-number false h = refl
+
+module _ (p : Parameters) (before : List Command) (command : Command) (behind : List Command) (sized : Sized p) where
+  sized-before : Sized (run p before)
+  sized-before = run-sized before p sized
+
+  -- the commands behind run on what the command leaves
+  run-behind : run p (before ++ command ∷ behind) ≡ run (afterCommand (run p before) command) behind
+  unfolding run
+  run-behind = run-join before (command ∷ behind) p
+
+  held-after :
+      (operation : Operation) (value : List ℕ) → operationOf command ≡ some operation
+      → newValue operation (run p before .store) (commandNumber command) ≡ some value
+      → noneChanges (commandNumber command) behind ≡ true → valueOf (run p (before ++ command ∷ behind) .store) (commandNumber command) ≡ value
+  held-after operation value e stored h =
+      let n : ℕ = commandNumber command in
+      let row : isSchedule command ≡ false = stored-row operation (run p before .store) n value stored in
+      let at-command : afterCommand (run p before) command .store ≡ after operation (run p before .store) n =
+      ap (λ (q : Parameters). q .store) (command-done (run p before) command)
+      ∙ (λ i.
+      cond (row i) (parametersOf (run p before .store) (afterEntry (run p before .schedule) command))
+      (parametersOf (done (e i) (run p before .store) n) (run p before .schedule)) .store) in
+      ap (λ (q : Parameters). valueOf (q .store) n) run-behind
+      ∙ same-room _ _ n (run-others n behind (afterCommand (run p before) command) h (sized-after (run p before) command sized-before))
+      ∙ ap (λ (s : Store). valueOf s n) at-command
+      ∙ read-back operation (run p before .store) n value (sized-before .store) stored
+
+  entry-after :
+      (day period : ℕ) → isDay day ≡ true → isPeriod period ≡ true → storesEntry day period command ≡ true
+      → noneStores day period behind ≡ true → entryAt (run p (before ++ command ∷ behind) .schedule) day period ≡ entryIn (command .value)
+  entry-after day period is-day is-period stored h =
+      ap (λ (q : Parameters). entryAt (q .schedule) day period) run-behind
+      ∙ run-entries day period is-day is-period behind (afterCommand (run p before) command) h (sized-after (run p before) command sized-before)
+      ∙ entry-stored day period is-day is-period (run p before) command sized-before stored
 
 runs :
-    (c : Call) → Sized (c .board .store) → stepRefusal c ≡ none → isDiscovery (request c) ≡ false
+    (c : Call) → Sized (c .board .parameters) → stepRefusal c ≡ none → isDiscovery (request c) ≡ false
     → (before : List Command) (command : Command) (behind : List Command)
     → commandsOf (request c) ≡ before ++ command ∷ behind → CommandRuns c before command behind
 runs c sized accepted other before command behind e =
-    let store : Store = c .board .store in
-    let left : step c .board ≡ withStore (c .board) (run store (commandsOf (request c))) =
-    answered-board c accepted ∙ ap (λ (d : Bool). cond d (c .board) (withStore (c .board) (run store (commandsOf (request c))))) other in
+    let p : Parameters = c .board .parameters in
+    let left : step c .board .parameters ≡ run p (before ++ command ∷ behind) =
+    ap (λ (b : Board). b .parameters)
+    (answered-board c accepted
+    ∙ (λ i. cond (other i) (c .board) (withParameters (c .board) (run p (e i))))) in
     record {
       stored = λ operation value done-by stored h.
-          ap (λ (b : Board). valueOf (b .store) (commandNumber command)) left
-          ∙ ap (λ (cs : List Command). valueOf (run store cs) (commandNumber command)) e
-          ∙ held-after store before command behind operation value sized done-by stored h;
+          ap (λ (q : Parameters). valueOf (q .store) (commandNumber command)) left
+          ∙ held-after p before command behind sized operation value done-by stored h;
+      stored-entry = λ day period is-day is-period stored h.
+          ap (λ (q : Parameters). entryAt (q .schedule) day period) left
+          ∙ entry-after p before command behind sized day period is-day is-period stored h;
       reports =
-          ap (λ (d : Bool). cond d (discoverReports (c .board .id) (commandsOf (request c))) (runReports store (commandsOf (request c)))) other
-          ∙ ap (runReports store) e
-          ∙ reports-join before command behind store;
+          ap (λ (d : Bool). cond d (discoverReports (c .board .id) (commandsOf (request c))) (runReports p (commandsOf (request c)))) other
+          ∙ ap (runReports p) e
+          ∙ reports-join before command behind p;
     }
 
 pub packets-change : PacketsChange
 packets-change c sized =
     record {
-      identity = on-step (SameIdentity (c .board)) c (same-identity (c .board) (c .board .store)) (same-identity (c .board) _);
+      identity = on-step (SameIdentity (c .board)) c (same-identity (c .board) (c .board .parameters)) (same-identity (c .board) _);
       others = λ n h.
-          on-step (λ (b : Board). roomOf (b .store) n ≡ roomOf (c .board .store) n) c refl (run-others n (commandsOf (request c)) (c .board .store) h sized);
+          on-step (λ (b : Board). roomOf (b .parameters .store) n ≡ roomOf (c .board .parameters .store) n) c refl
+          (run-others n (commandsOf (request c)) (c .board .parameters) h sized);
+      entries = λ day period is-day is-period h.
+          on-step (λ (b : Board). entryAt (b .parameters .schedule) day period ≡ entryAt (c .board .parameters .schedule) day period) c refl
+          (run-entries day period is-day is-period (commandsOf (request c)) (c .board .parameters) h sized);
       runs = runs c sized;
       legal = λ legal.
           let parts : SoundParts (c .board) = sound-parts (c .board) (legal .is-sound) in
-          on-step Legal c legal (legal-with (c .board) _ parts (run-legal (commandsOf (request c)) (c .board .store) sized (store-of parts)));
+          on-step Legal c legal (legal-with (c .board) _ parts (run-legal (commandsOf (request c)) (c .board .parameters) sized (parameters-of parts)));
     }
 
 on-measured :
-    (P : Board → Type 0) (c : MeasureCall) → P (c .board) → P (withStore (c .board) (after (Measure (c .value)) (c .board .store) (c .number)))
+    (P : Board → Type 0) (c : MeasureCall) → P (c .board) → P (withParameters (c .board) (parametersOf (after (Measure (c .value)) (c .board .parameters .store) (c .number)) (c .board .parameters .schedule)))
     → P (measuredBoard c)
 unfolding measuredBoard
 on-measured P c unchanged changed = by-refusal (measureRefusal c)
@@ -232,7 +402,7 @@ measurement-accepted :
 unfolding measureRefusal measureRefusals firstRefusal
 measurement-accepted c legal row size = rw (legal, row, eq-eqb _ _ size)
 
-measured-value : (c : MeasureCall) → Sized (c .board .store) → measureRefusal c ≡ none → valueOf (measuredBoard c .store) (c .number) ≡ c .value
+measured-value : (c : MeasureCall) → Sized (c .board .parameters) → measureRefusal c ≡ none → valueOf (measuredBoard c .parameters .store) (c .number) ≡ c .value
 unfolding measureRefusal measureRefusals measuredBoard
 measured-value c sized e =
     let seventy = not-refused _ _ c e in
@@ -240,25 +410,26 @@ measured-value c sized e =
     let thirty-one = not-refused _ _ c (thirty .1) in
     let row : measurable (c .number) ≡ true = not-false _ (thirty .0) in
     let size : eqb (length (c .value)) (sizeOf (rowOf (c .number) .set)) ≡ true = not-false _ (thirty-one .0) in
-    let stored : newValue (Measure (c .value)) (c .board .store) (c .number) ≡ some (c .value) = rw (row, size) in
-    ap (λ (o : Option ℕ). valueOf (measuredBy o c .store) (c .number)) e
-    ∙ read-back (Measure (c .value)) (c .board .store) (c .number) (c .value) sized stored
+    let stored : newValue (Measure (c .value)) (c .board .parameters .store) (c .number) ≡ some (c .value) = rw (row, size) in
+    ap (λ (o : Option ℕ). valueOf (measuredBy o c .parameters .store) (c .number)) e
+    ∙ read-back (Measure (c .value)) (c .board .parameters .store) (c .number) (c .value) (sized .store) stored
 
 pub measurements-change : MeasurementsChange
 measurements-change c sized =
     record {
-      identity = on-measured (SameIdentity (c .board)) c (same-identity (c .board) (c .board .store)) (same-identity (c .board) _);
+      identity = on-measured (SameIdentity (c .board)) c (same-identity (c .board) (c .board .parameters)) (same-identity (c .board) _);
       accepted = measurement-accepted c;
       stored = measured-value c sized;
       others = λ n h.
-          on-measured (λ (b : Board). roomOf (b .store) n ≡ roomOf (c .board .store) n) c refl
-          (others-kept (Measure (c .value)) (c .board .store) (c .number) n sized h);
+          on-measured (λ (b : Board). roomOf (b .parameters .store) n ≡ roomOf (c .board .parameters .store) n) c refl
+          (others-kept (Measure (c .value)) (c .board .parameters .store) (c .number) n (sized .store) h);
+      entries = on-measured (λ (b : Board). b .parameters .schedule ≡ c .board .parameters .schedule) c refl refl;
       legal = λ legal.
           let parts : SoundParts (c .board) = sound-parts (c .board) (legal .is-sound) in
           on-measured Legal c legal
           (legal-with (c .board) _ parts (
-            size-kept (Measure (c .value)) (c .board .store) (c .number) sized,
-            after-legal (Measure (c .value)) (c .board .store) (c .number) sized (store-of parts),
+            record { store = size-kept (Measure (c .value)) (c .board .parameters .store) (c .number) (sized .store); schedule = sized .schedule },
+            operation-legal (Measure (c .value)) (c .board .parameters) (c .number) sized (parameters-of parts),
           ));
     }
 
@@ -281,10 +452,11 @@ started given e =
             password = rw (take-at (given .password) (replicate (8 - length (given .password)) 0) (length (given .password)) refl) (password .1);
             mode = not-false _ (twenty-two .0);
             held = start-sound (given .id) id-size;
+            scheduled = schedule.start-sound;
             own-id = start-identity (given .id) id-size .0;
             unit-type = start-identity (given .id) id-size .1;
           });
-      sized = start-sized (given .id) id-size;
+      sized = record { store = start-sized (given .id) id-size; schedule = schedule.start-sized };
     }
 
 unset-accepted : setUpRefusal unset ≡ none

@@ -1,4 +1,4 @@
--- Each report of a board has an encoding: its low byte is a decoded command's, and its value is one of a sound store or of the identity.
+-- Each report of a board has an encoding: its low byte is a decoded command's, and its value is one of a sound store, of the schedule or of the identity.
 use Prim.Native.Nat.{ℕ, _≤_}
 use native.Mathlib.Omega.{arith}
 use mathlib.Core.Bool.{Bool, true, false, cond, _&&_, _||_}
@@ -12,17 +12,20 @@ use Rattle.octets.proofs.Booleans.{both-true}
 use Rattle.block.specs.Command.{Command, commandNumber, Report, held}
 use Rattle.block.specs.Encoding.{encodableReport, every}
 use Rattle.block.proofs.LowBytes.{isLow, low-bytes}
-use Rattle.store.specs.declared.Store.{Store}
-use Rattle.store.specs.Laws.{Operation, Write, Raise, Lower, after, Sized}
 use Rattle.store.specs.Layout.{valueOf}
 use Rattle.store.specs.Rows.{known}
 use Rattle.store.specs.Sound as stored
-use Rattle.store.proofs.Laws.{size-kept, sound-kept, held-length}
-use Rattle.model.specs.Changes.{ReportsHeld}
-use Rattle.model.specs.Commands.{afterCommand, reported, runReports, discovered, discoverReports}
+use Rattle.store.proofs.Laws.{sound-kept, held-length}
+use Rattle.schedule.specs.Operations.{answered, reportOf}
+use Rattle.schedule.specs.declared.Answer.{Answer as Answered}
+use Rattle.schedule.specs.declared.Answer.the-variants as answer
+use Rattle.schedule.specs.declared.Schedule.{Schedule}
+use Rattle.model.specs.Changes.{ReportsHeld, Sized}
+use Rattle.model.specs.Commands.{isSchedule, afterCommand, entryReport, reported, runReports, discovered, discoverReports}
 use Rattle.model.specs.Record.{micra, sound}
 use Rattle.model.specs.Step.{Request, isDiscovery, decoded, commandsOf, reportsOf}
-use Rattle.model.proofs.Changed.{values-reported}
+use Rattle.model.specs.declared.Parameters.{Parameters}
+use Rattle.model.proofs.Changed.{values-reported, on-command, sized-after}
 use Rattle.model.proofs.Soundness.{sound-parts, id-length}
 
 abbrev pub allEncodable : List Report → Type 0
@@ -40,52 +43,54 @@ encodable-held : (c : Command) (value : List ℕ) → isLow c ≡ true → 1 ≤
 unfolding every
 encodable-held c value low any short = λ i. low i && le-leb (length value) 255 short i && le-leb 1 (length value) any i && true
 
--- a store that is sound, and as long as the code has it
-pub record Fit (store : Store) : Type 0 where
-  pub size : Sized store
-  pub is-sound : stored.sound store ≡ true
+-- parameters whose rows are sound, as long as the code has them
+pub record Fit (p : Parameters) : Type 0 where
+  pub size : Sized p
+  pub is-sound : stored.sound (p .store) ≡ true
 
-pub fit-after : (store : Store) (c : Command) → Fit store → Fit (afterCommand store c)
-unfolding afterCommand
-fit-after store c fit = by-function (eqb (c .function) 2 || eqb (c .function) 3) (eqb (c .function) 4) (eqb (c .function) 5)
-  where
-    after-operation : (o : Operation) → Fit (after o store (commandNumber c))
-    after-operation o =
-        record { size = size-kept o store (commandNumber c) (fit .size); is-sound = sound-kept o store (commandNumber c) (fit .size) (fit .is-sound) }
+pub fit-after : (p : Parameters) (c : Command) → Fit p → Fit (afterCommand p c)
+fit-after p c fit =
+    record {
+      size = sized-after p c (fit .size);
+      is-sound =
+          on-command (λ (q : Parameters). stored.sound (q .store) ≡ true) p c (fit .is-sound)
+          (λ operation e. sound-kept operation (p .store) (commandNumber c) (fit .size .store) (fit .is-sound)) (λ named writes. fit .is-sound);
+    }
 
-    by-function :
-        (writes raises lowers : Bool)
-        → Fit (cond writes (after (Write (c .value)) store (commandNumber c))
-        (cond raises (after Raise store (commandNumber c)) (cond lowers (after Lower store (commandNumber c)) store)))
-    by-function true raises lowers = after-operation (Write (c .value))
-    by-function false true lowers = after-operation Raise
-    by-function false false true = after-operation Lower
-    by-function false false false = fit
-
-pub encodable-reported : (store : Store) (c : Command) → stored.sound store ≡ true → isLow c ≡ true → allEncodable (reported store c)
+-- an entry's report has six bytes
+encodable-entry : (answer : Answered) (schedule : Schedule) (c : Command) → isLow c ≡ true → allEncodable (entryReport answer schedule c)
 unfolding every
-encodable-reported store c is-sound low = by-answer (eqb (c .function) 2) (known (commandNumber c)) refl refl
+encodable-entry (answer.Entry day period) schedule c low = encodable-held c (reportOf schedule day period) low (omega arith) (omega arith)
+encodable-entry answer.Unknown schedule c low = rw low
+encodable-entry answer.Silence schedule c low = refl
+
+pub encodable-reported : (p : Parameters) (c : Command) → stored.sound (p .store) ≡ true → isLow c ≡ true → allEncodable (reported p c)
+unfolding every
+encodable-reported p c is-sound low = by-answer (isSchedule c) (eqb (c .function) 2) (known (commandNumber c)) refl refl refl
   where
-    reports : ReportsHeld store c
-    reports = values-reported store c
+    reports : ReportsHeld p c
+    reports = values-reported p c
 
-    by-answer : (silent row : Bool) → eqb (c .function) 2 ≡ silent → known (commandNumber c) ≡ row → allEncodable (reported store c)
-    by-answer true row s k = rw (reports .silence s)
-    by-answer false true s k =
-        let lengths : (1 ≤ length (valueOf store (commandNumber c))) × (length (valueOf store (commandNumber c)) ≤ 64) =
-        held-length store (commandNumber c) is-sound k in
-        rw (reports .value s k) (encodable-held c (valueOf store (commandNumber c)) low (lengths .0) (omega arith))
-    by-answer false false s k = rw (reports .mark s k, low)
+    by-answer :
+        (is-schedule silent row : Bool) → isSchedule c ≡ is-schedule → eqb (c .function) 2 ≡ silent → known (commandNumber c) ≡ row
+        → allEncodable (reported p c)
+    by-answer true silent row h s k = rw (reports .entry h) (encodable-entry (answered (c .function) (c .value)) (p .schedule) c low)
+    by-answer false true row h s k = rw (reports .silence s)
+    by-answer false false true h s k =
+        let lengths : (1 ≤ length (valueOf (p .store) (commandNumber c))) × (length (valueOf (p .store) (commandNumber c)) ≤ 64) =
+        held-length (p .store) (commandNumber c) is-sound k in
+        rw (reports .value s k) (encodable-held c (valueOf (p .store) (commandNumber c)) low (lengths .0) (omega arith))
+    by-answer false false false h s k = rw (reports .mark s k h, low)
 
-run-encodable : (cs : List Command) (store : Store) → Fit store → every isLow cs ≡ true → allEncodable (runReports store cs)
+run-encodable : (cs : List Command) (p : Parameters) → Fit p → every isLow cs ≡ true → allEncodable (runReports p cs)
 unfolding runReports every
-run-encodable [] store fit low = refl
-run-encodable (c ∷ cs) store fit low =
+run-encodable [] p fit low = refl
+run-encodable (c ∷ cs) p fit low =
     let both = both-true (isLow c) (every isLow cs) low in
-    let next : Fit (afterCommand store c) = fit-after store c fit in
-    encodable-join (reported (afterCommand store c) c) (runReports (afterCommand store c) cs)
-    (encodable-reported (afterCommand store c) c (next .is-sound) (both .0))
-    (run-encodable cs (afterCommand store c) next (both .1))
+    let next : Fit (afterCommand p c) = fit-after p c fit in
+    encodable-join (reported (afterCommand p c) c) (runReports (afterCommand p c) cs)
+    (encodable-reported (afterCommand p c) c (next .is-sound) (both .0))
+    (run-encodable cs (afterCommand p c) next (both .1))
 
 -- of a discovery
 module _ (id : List ℕ) (sixteen : length id ≡ 16) where
@@ -113,12 +118,12 @@ low-commands r = by-block (decoded r) refl
     by-block none e = refl
     by-block (some cs) e = low-bytes (r .frame .function) (r .frame .block) cs e
 
-pub reports-encodable : (r : Request) → sound (r .board) ≡ true → Sized (r .board .store) → every encodableReport (reportsOf r) ≡ true
+pub reports-encodable : (r : Request) → sound (r .board) ≡ true → Sized (r .board .parameters) → every encodableReport (reportsOf r) ≡ true
 reports-encodable r legal sized = by-discovery (isDiscovery r)
   where
     by-discovery :
         (discovery : Bool)
-        → allEncodable (cond discovery (discoverReports (r .board .id) (commandsOf r)) (runReports (r .board .store) (commandsOf r)))
+        → allEncodable (cond discovery (discoverReports (r .board .id) (commandsOf r)) (runReports (r .board .parameters) (commandsOf r)))
     by-discovery true = discovery-encodable (r .board .id) (id-length (r .board) legal) (commandsOf r) (low-commands r)
     by-discovery false =
-        run-encodable (commandsOf r) (r .board .store) (record { size = sized; is-sound = sound-parts (r .board) legal .held }) (low-commands r)
+        run-encodable (commandsOf r) (r .board .parameters) (record { size = sized; is-sound = sound-parts (r .board) legal .held }) (low-commands r)

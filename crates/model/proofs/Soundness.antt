@@ -10,6 +10,7 @@ use Rattle.octets.proofs.Same.{same-self, same-equal}
 use Rattle.framing.specs.Identity.{defaultId, allAlphanumeric}
 use Rattle.store.specs.Layout.{valueOf}
 use Rattle.store.specs.Sound as rows
+use Rattle.schedule.specs.Entries as entries
 use Rattle.model.specs.Record.{isId, isMode, micra, passwordOf, sound}
 use Rattle.model.specs.declared.Board.{Board}
 
@@ -18,16 +19,18 @@ pub record SoundParts (board : Board) : Type 0 where
   pub size : leb (board .size) 8 ≡ true
   pub password : allAlphanumeric (passwordOf board) ≡ true
   pub mode : isMode (board .mode) ≡ true
-  pub held : rows.sound (board .store) ≡ true
-  pub own-id : valueOf (board .store) 0x007C ≡ board .id
-  pub unit-type : valueOf (board .store) 0x00B9 ≡ micra
+  pub scheduled : entries.sound (board .parameters .schedule) ≡ true
+  pub held : rows.sound (board .parameters .store) ≡ true
+  pub own-id : valueOf (board .parameters .store) 0x007C ≡ board .id
+  pub unit-type : valueOf (board .parameters .store) 0x00B9 ≡ micra
 
 pub sound-parts : (board : Board) → sound board ≡ true → SoundParts board
 unfolding sound
 sound-parts board h =
-    let six = both-true _ (same (valueOf (board .store) 0x00B9) micra) h in
-    let five = both-true _ (same (valueOf (board .store) 0x007C) (board .id)) (six .0) in
-    let four = both-true _ (rows.sound (board .store)) (five .0) in
+    let seven = both-true _ (same (valueOf (board .parameters .store) 0x00B9) micra) h in
+    let six = both-true _ (same (valueOf (board .parameters .store) 0x007C) (board .id)) (seven .0) in
+    let five = both-true _ (rows.sound (board .parameters .store)) (six .0) in
+    let four = both-true _ (entries.sound (board .parameters .schedule)) (five .0) in
     let three = both-true _ (isMode (board .mode)) (four .0) in
     let two = both-true _ (allAlphanumeric (passwordOf board)) (three .0) in
     let one = both-true (isId (board .id)) (leb (board .size) 8) (two .0) in
@@ -36,15 +39,16 @@ sound-parts board h =
       size = one .1;
       password = two .1;
       mode = three .1;
-      held = four .1;
-      own-id = same-equal _ _ (five .1);
-      unit-type = same-equal _ _ (six .1);
+      scheduled = four .1;
+      held = five .1;
+      own-id = same-equal _ _ (six .1);
+      unit-type = same-equal _ _ (seven .1);
     }
 
 pub parts-sound : (board : Board) → SoundParts board → sound board ≡ true
 unfolding sound
 parts-sound board parts =
-    rw (parts .id, parts .size, parts .password, parts .mode, parts .held, parts .own-id, parts .unit-type, same-self (board .id), same-self micra)
+    rw (parts .id, parts .size, parts .password, parts .mode, parts .scheduled, parts .held, parts .own-id, parts .unit-type, same-self (board .id), same-self micra)
 
 pub id-length : (board : Board) → sound board ≡ true → length (board .id) ≡ 16
 id-length board h =

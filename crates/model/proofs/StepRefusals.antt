@@ -11,7 +11,7 @@ use Rattle.framing.proofs.Refusals.{not-refused}
 use Rattle.block.specs.Command.{Report}
 use Rattle.block.specs.Reading.{isSome}
 use Rattle.model.specs.Commands.{run}
-use Rattle.model.specs.Record.{withStore}
+use Rattle.model.specs.Record.{withParameters}
 use Rattle.model.specs.Step.{Request, Call, request, unsound, smallBuffer, otherId, wrongPassword, wrongFunction, malformed, discoveryWrites, longResponse, requestRefusals, onPacket, onRequest, stepRefusals, stepRefusal, isDiscovery, commandsOf, reportsOf, Outcome, outcomeOf, nextBoard, answerWith, outcomeBy, step}
 use Rattle.model.specs.declared.Answer.the-variants.{Refused}
 use Rattle.model.specs.declared.Board.{Board}
@@ -130,7 +130,7 @@ passed-step c h =
     let others : (packetRefusal (c .packet) ≡ none) × (firstRefusal requestRefusals (request c) ≡ none) = both-none _ _ (sym (behind-one c) ∙ one .1) in
     record { board = seventy .0; room = one .0; packet = others .0; request = others .1 }
 
--- the next record: as it was, or with the store that the commands leave
+-- the next record: as it was, or with the parameters that the commands leave
 reported-board : (reports : List Report) (r : Request) (buffer : List ℕ) → answerWith reports r buffer .board ≡ nextBoard r
 reported-board [] r buffer = refl
 reported-board (report ∷ reports) r buffer = refl
@@ -140,10 +140,10 @@ answered-board c e = ap (λ (o : Outcome). o .board) (step-answered c e) ∙ rep
 
 -- what holds of both holds of the next record
 pub on-step :
-    (P : Board → Type 0) (c : Call) → P (c .board) → P (withStore (c .board) (run (c .board .store) (commandsOf (request c)))) → P (step c .board)
+    (P : Board → Type 0) (c : Call) → P (c .board) → P (withParameters (c .board) (run (c .board .parameters) (commandsOf (request c)))) → P (step c .board)
 on-step P c unchanged changed = by-refusal (stepRefusal c) refl
   where
-    by-discovery : (discovery : Bool) → P (cond discovery (c .board) (withStore (c .board) (run (c .board .store) (commandsOf (request c)))))
+    by-discovery : (discovery : Bool) → P (cond discovery (c .board) (withParameters (c .board) (run (c .board .parameters) (commandsOf (request c)))))
     by-discovery true = unchanged
     by-discovery false = changed
 

@@ -21,7 +21,7 @@ use Rattle.model.specs.Authentication.{passes, bears, discovers}
 use Rattle.model.specs.Commands.{run, runReports, discoverReports}
 use Rattle.model.specs.Discovery.{Reply, replyOf, Discovery, foundReports, foundResponse, discovery, discoveryRefusals, replyWith, replyBy, discoveryReply}
 use Rattle.model.specs.PublicReply.{bufferedReply, publicRefusal, publicReply, UnauthenticatedAnswered}
-use Rattle.model.specs.Record.{client, passwordOf, withStore, sound}
+use Rattle.model.specs.Record.{client, passwordOf, withParameters, sound}
 use Rattle.model.specs.Step.{Request, requestOf, call, isDiscovery, commandsOf, reportsOf, response, otherId, requestRefusals, stepRefusal, Outcome, outcomeOf, nextBoard, answerWith, outcomeBy, step}
 use Rattle.model.specs.declared.Answer.the-variants.{Refused, Silence, Response}
 use Rattle.model.specs.declared.Board.{Board}
@@ -53,7 +53,7 @@ module _ (board : Board) (packet : List ℕ) where
   module _ (is-discovery : (eqb (board .mode) client && same (frameOf packet .id) defaultId) ≡ true) where
     reports-found : reportsOf asked ≡ foundReports found
     unfolding asked found
-    reports-found = ap (λ (d : Bool). cond d (discoverReports (board .id) (commandsOf asked)) (runReports (board .store) (commandsOf asked))) is-discovery
+    reports-found = ap (λ (d : Bool). cond d (discoverReports (board .id) (commandsOf asked)) (runReports (board .parameters) (commandsOf asked))) is-discovery
 
     response-found : response asked ≡ foundResponse found
     unfolding asked found
@@ -61,7 +61,7 @@ module _ (board : Board) (packet : List ℕ) where
 
     board-kept : nextBoard asked ≡ board
     unfolding asked
-    board-kept = ap (λ (d : Bool). cond d board (withStore board (run (board .store) (commandsOf asked)))) is-discovery
+    board-kept = ap (λ (d : Bool). cond d board (withParameters board (run (board .parameters) (commandsOf asked)))) is-discovery
 
     answer-found : (reports : List Report) (buffer : List ℕ) → answerWith reports asked buffer ≡ withReply board (replyWith reports found buffer)
     unfolding asked found

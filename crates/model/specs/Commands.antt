@@ -1,4 +1,4 @@
--- What a command does to a store, and what it reports.
+-- What a command does to a board's parameters, and what it reports.
 use Prim.Native.Nat.{ℕ}
 use mathlib.Core.Bool.{Bool, cond, _||_}
 use mathlib.Core.List.{List, [], _∷_, _++_}
@@ -9,33 +9,61 @@ use Rattle.store.specs.declared.Answer.the-variants.{Value, Unknown, Silence}
 use Rattle.store.specs.declared.Store.{Store}
 use Rattle.store.specs.Layout.{valueOf}
 use Rattle.store.specs.Operations.{written, raised, lowered, answer}
-use Rattle.model.specs.Record.{micra}
+use Rattle.schedule.specs.declared.Answer.{Answer as Answered}
+use Rattle.schedule.specs.declared.Answer.the-variants as entry
+use Rattle.schedule.specs.declared.Schedule.{Schedule}
+use Rattle.schedule.specs.Operations as entries
+use Rattle.model.specs.Record.{micra, parametersOf}
+use Rattle.model.specs.declared.Parameters.{Parameters}
+
+-- the weekly schedule is one parameter, every other one is a row or unknown
+abbrev pub isSchedule : Command → Bool
+isSchedule c = eqb (commandNumber c) entries.scheduleNumber
+
+abbrev pub isWrite : Command → Bool
+isWrite c = eqb (c .function) 2 || eqb (c .function) 3
 
 -- 02 and 03 write, 04 raises, 05 lowers
-unfoldable pub afterCommand : Store → Command → Store
-afterCommand store c =
-    cond (eqb (c .function) 2 || eqb (c .function) 3) (written store (commandNumber c) (c .value))
+abbrev pub afterRow : Store → Command → Store
+afterRow store c =
+    cond (isWrite c) (written store (commandNumber c) (c .value))
     (cond (eqb (c .function) 4) (raised store (commandNumber c))
     (cond (eqb (c .function) 5) (lowered store (commandNumber c))
     store))
 
-abbrev pub reportAs : Answer → Store → Command → List Report
-reportAs Value store c = held (c .page) (c .low) (valueOf store (commandNumber c)) ∷ []
-reportAs Unknown store c = unknown (c .page) (c .low) ∷ []
-reportAs Silence store c = []
+-- the schedule is written only
+abbrev pub afterEntry : Schedule → Command → Schedule
+afterEntry schedule c = cond (isWrite c) (entries.written schedule (c .value)) schedule
 
--- what a command reports of the store just after it
-unfoldable pub reported : Store → Command → List Report
-reported store c = reportAs (answer (c .function) (commandNumber c) (c .value)) store c
+unfoldable pub afterCommand : Parameters → Command → Parameters
+afterCommand parameters c =
+    cond (isSchedule c) (parametersOf (parameters .store) (afterEntry (parameters .schedule) c))
+    (parametersOf (afterRow (parameters .store) c) (parameters .schedule))
 
--- the store after commands in order, and their reports
-unfoldable pub run : Store → List Command → Store
-run store [] = store
-run store (c ∷ cs) = run (afterCommand store c) cs
+abbrev pub rowReport : Answer → Store → Command → List Report
+rowReport Value store c = held (c .page) (c .low) (valueOf store (commandNumber c)) ∷ []
+rowReport Unknown store c = unknown (c .page) (c .low) ∷ []
+rowReport Silence store c = []
 
-unfoldable pub runReports : Store → List Command → List Report
-runReports store [] = []
-runReports store (c ∷ cs) = reported (afterCommand store c) c ++ runReports (afterCommand store c) cs
+abbrev pub entryReport : Answered → Schedule → Command → List Report
+entryReport (entry.Entry day period) schedule c = held (c .page) (c .low) (entries.reportOf schedule day period) ∷ []
+entryReport entry.Unknown schedule c = unknown (c .page) (c .low) ∷ []
+entryReport entry.Silence schedule c = []
+
+-- what a command reports of the parameters just after it
+unfoldable pub reported : Parameters → Command → List Report
+reported parameters c =
+    cond (isSchedule c) (entryReport (entries.answered (c .function) (c .value)) (parameters .schedule) c)
+    (rowReport (answer (c .function) (commandNumber c) (c .value)) (parameters .store) c)
+
+-- the parameters after commands in order, and their reports
+unfoldable pub run : Parameters → List Command → Parameters
+run parameters [] = parameters
+run parameters (c ∷ cs) = run (afterCommand parameters c) cs
+
+unfoldable pub runReports : Parameters → List Command → List Report
+runReports parameters [] = []
+runReports parameters (c ∷ cs) = reported (afterCommand parameters c) c ++ runReports (afterCommand parameters c) cs
 
 -- what a command of a discovery (the search of document 01) reports: the ID, the unit type, or nothing
 unfoldable pub discovered : List ℕ → Command → List Report

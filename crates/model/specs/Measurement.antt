@@ -10,7 +10,7 @@ use Rattle.framing.specs.Refusal.{Refusal, refusal, firstRefusal}
 use Rattle.store.specs.Layout.{sizeOf}
 use Rattle.store.specs.Operations.{measurable, measured}
 use Rattle.store.specs.Rows.{rowOf}
-use Rattle.model.specs.Record.{sound, verdictOf, withStore}
+use Rattle.model.specs.Record.{sound, verdictOf, parametersOf, withParameters}
 use Rattle.model.specs.declared.Answered.{Answered}
 use Rattle.model.specs.declared.Board.{Board}
 
@@ -33,7 +33,9 @@ unfoldable pub measureRefusal : MeasureCall → Option ℕ
 measureRefusal c = firstRefusal measureRefusals c
 
 abbrev pub measuredBy : Option ℕ → MeasureCall → Board
-measuredBy none c = withStore (c .board) (measured (c .board .store) (c .number) (c .value))
+measuredBy none c =
+    withParameters (c .board)
+    (parametersOf (measured (c .board .parameters .store) (c .number) (c .value)) (c .board .parameters .schedule))
 measuredBy (some number) c = c .board
 
 unfoldable pub measuredBoard : MeasureCall → Board

@@ -13,8 +13,11 @@ use Rattle.store.specs.declared.Store.{Store}
 use Rattle.store.specs.Layout.{valueOf}
 use Rattle.store.specs.Sound as rows
 use Rattle.store.specs.Start.{start}
+use Rattle.schedule.specs.declared.Schedule.{Schedule}
+use Rattle.schedule.specs.Entries as entries
 use Rattle.model.specs.declared.Answered.{Answered}
 use Rattle.model.specs.declared.Board.{Board}
+use Rattle.model.specs.declared.Parameters.{Parameters}
 use Rattle.model.specs.declared.Verdict.{Verdict}
 use Rattle.model.specs.declared.Verdict.the-variants.{Accepted, Refused}
 
@@ -44,9 +47,13 @@ micra = 2 ∷ 0 ∷ []
 abbrev pub passwordOf : Board → List ℕ
 passwordOf board = take (board .size) (board .password)
 
-abbrev pub withStore : Board → Store → Board
-withStore board store =
-    record { id = board .id; password = board .password; size = board .size; mode = board .mode; store = store }
+-- the rows, and the entries of the schedule
+abbrev pub parametersOf : Store → Schedule → Parameters
+parametersOf store schedule = record { store = store; schedule = schedule }
+
+abbrev pub withParameters : Board → Parameters → Board
+withParameters board parameters =
+    record { id = board .id; password = board .password; size = board .size; mode = board .mode; parameters = parameters }
 
 -- what set-up is given
 pub record SetUp : Type 0 where
@@ -75,7 +82,7 @@ startBoard given =
       password = given .password ++ replicate (8 - length (given .password)) 0;
       size = length (given .password);
       mode = given .mode;
-      store = start (given .id);
+      parameters = parametersOf (start (given .id)) entries.start;
     }
 
 -- what a refused set-up returns the start record of
@@ -94,9 +101,10 @@ pub record SetsUp (given : SetUp) (result : Answered) : Type 0 where
   pub answered : result .verdict ≡ verdictOf (setUpRefusal given)
   pub made : result .board ≡ setUpBoard given
 
--- refusal 70 where a record is not sound: set-up would refuse its ID, password or mode, a row is outside its set, or 007C or 00B9
--- differ from the identity
+-- refusal 70 where a record is not sound: set-up would refuse its ID, password or mode, an entry of the schedule has a field outside its
+-- range, a row is outside its set, or 007C or 00B9 differ from the identity
 unfoldable pub sound : Board → Bool
 sound board =
     isId (board .id) && leb (board .size) 8 && allAlphanumeric (passwordOf board) && isMode (board .mode)
-    && rows.sound (board .store) && same (valueOf (board .store) 0x007C) (board .id) && same (valueOf (board .store) 0x00B9) micra
+    && entries.sound (board .parameters .schedule) && rows.sound (board .parameters .store)
+    && same (valueOf (board .parameters .store) 0x007C) (board .id) && same (valueOf (board .parameters .store) 0x00B9) micra

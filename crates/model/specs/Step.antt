@@ -16,7 +16,7 @@ use Rattle.block.specs.Encoding.{encodeReports}
 use Rattle.block.specs.Reading.{isSome}
 use Rattle.block.specs.Request.{commands, onlyReads}
 use Rattle.model.specs.Commands.{run, runReports, discoverReports}
-use Rattle.model.specs.Record.{sound, client, passwordOf, withStore}
+use Rattle.model.specs.Record.{sound, client, passwordOf, withParameters}
 use Rattle.model.specs.declared.Answer.{Answer}
 use Rattle.model.specs.declared.Answer.the-variants.{Refused, Silence, Response}
 use Rattle.model.specs.declared.Board.{Board}
@@ -54,7 +54,7 @@ commandsOf r = Option·getD (decoded r) []
 
 abbrev pub reportsOf : Request → List Report
 reportsOf r =
-    cond (isDiscovery r) (discoverReports (r .board .id) (commandsOf r)) (runReports (r .board .store) (commandsOf r))
+    cond (isDiscovery r) (discoverReports (r .board .id) (commandsOf r)) (runReports (r .board .parameters) (commandsOf r))
 
 -- the board's own ID, the request's password, FUNC 06
 abbrev pub response : Request → Frame
@@ -117,7 +117,7 @@ abbrev pub outcomeOf : Board → Answer → List ℕ → Outcome
 outcomeOf board answer buffer = record { board = board; answer = answer; buffer = buffer }
 
 abbrev pub nextBoard : Request → Board
-nextBoard r = cond (isDiscovery r) (r .board) (withStore (r .board) (run (r .board .store) (commandsOf r)))
+nextBoard r = cond (isDiscovery r) (r .board) (withParameters (r .board) (run (r .board .parameters) (commandsOf r)))
 
 -- no reports: silence
 abbrev pub answerWith : List Report → Request → List ℕ → Outcome

@@ -1,6 +1,14 @@
 // A board's record, and what set-up, a packet and a measurement are answered with. What each of them does is defined in `specs/`, with
 // demands 1, 2 and 3 proved of the definitions; `board` has the code.
+use schedule::Schedule;
 use store::Store;
+
+// What a board's parameters hold: the rows, and the entries of the weekly schedule.
+#[repr(C)]
+pub struct Parameters {
+    pub store: Store,
+    pub schedule: Schedule,
+}
 
 // A board's record. The password is the first `size` bytes of `password`; `mode` is the mode in force.
 #[repr(C)]
@@ -9,7 +17,7 @@ pub struct Board {
     pub password: [u8; 8],
     pub size: u8,
     pub mode: u8,
-    pub store: Store,
+    pub parameters: Parameters,
 }
 
 // What set-up and a measurement are answered with.
