@@ -1,6 +1,3 @@
-pub mod Drafts
-pub mod Running
-pub mod Turns
 pub mod Checking
 pub mod Starting
 pub mod Responding

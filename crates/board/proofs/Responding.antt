@@ -23,21 +23,21 @@ use Rattle.framing.proofs.WritesRead.{accepted}
 use Rattle.block.specs.Command.{Command}
 use Rattle.block.specs.Encoding.{encodableReport, encodeReports, every}
 use Rattle.block.specs.Request.{commands, onlyReads}
-use Rattle.store.specs.declared.Store.{Store}
 use Rattle.board.specs.Answering.{Leaves, answered, checked, inIdentity, numberIn, refusedWith, responded, respondedIn, respondedWith, responseOf, scopeOf}
 use Rattle.model.specs.Commands.{run}
-use Rattle.board.specs.Draft.{blank, exceeded, extended, ranBehind, ranBlock, ranOf, runReportsIn, taken}
-use Rattle.model.specs.Record.{passwordOf, withStore}
+use Rattle.commands.specs.Draft.{blank, exceeded, extended, ranBehind, ranBlock, ranOf, runReportsIn, taken}
+use Rattle.model.specs.Record.{passwordOf, withParameters}
 use Rattle.model.specs.Step.{Call, Outcome, Request, Steps, step, outcomeOf, isDiscovery, otherId, wrongPassword, wrongFunction, malformed, discoveryWrites}
 use Rattle.model.specs.declared.Answer.{Answer}
 use Rattle.model.specs.declared.Answer.the-variants.{Refused, Response, Silence}
 use Rattle.model.specs.declared.Board.{Board}
+use Rattle.model.specs.declared.Parameters.{Parameters}
 use Rattle.model.specs.declared.Stepped.{Stepped}
 use Rattle.board.specs.declared.checks.Check.{Check}
-use Rattle.board.specs.declared.commands.Ran.{Ran}
-use Rattle.board.specs.declared.commands.Scope.{Scope}
-use Rattle.board.specs.declared.draft.Room.{Room}
-use Rattle.board.specs.declared.draft.Room.the-variants.{Left, Over}
+use Rattle.commands.specs.declared.Ran.{Ran}
+use Rattle.commands.specs.declared.Scope.{Scope}
+use Rattle.commands.specs.declared.draft.Room.{Room}
+use Rattle.commands.specs.declared.draft.Room.the-variants.{Left, Over}
 
 -- the outcome that a result and a buffer are, and its transport
 pub leaves : {board : Board} {answer : Answer} {buffer : List ℕ} {result : Stepped} {after : List ℕ} {outcome : Outcome} → outcome ≡ outcomeOf board answer buffer
@@ -53,28 +53,28 @@ pub leaves-as : {result : Stepped} {after : List ℕ} {left right : Outcome} →
 leaves-as e d = leaves e (d .board) (d .answer) (d .buffer)
 
 -- a draft ends within its array
-inside-by : (scope : Scope) (store : Store) (decoded : Option (List Command)) {ran : Ran} → ran ≡ ranBehind (ranOf store (exceeded blank)) scope store blank decoded
+inside-by : (scope : Scope) (p : Parameters) (decoded : Option (List Command)) {ran : Ran} → ran ≡ ranBehind (ranOf p (exceeded blank)) scope p blank decoded
     → ran .draft .length ≤ length (ran .draft .bytes)
-inside-by scope store none e = rw e (omega arith)
-inside-by scope store (some cs) e = rw e (by-room (taken blank (runReportsIn scope store cs)) refl)
+inside-by scope p none e = rw e (omega arith)
+inside-by scope p (some cs) e = rw e (by-room (taken blank (runReportsIn scope p cs)) refl)
   where
-    by-room : (yes : Bool) → taken blank (runReportsIn scope store cs) ≡ yes
-        → cond yes (ranOf (run store cs) (extended blank (runReportsIn scope store cs))) (ranOf store (exceeded blank)) .draft .length
-        ≤ length (cond yes (ranOf (run store cs) (extended blank (runReportsIn scope store cs))) (ranOf store (exceeded blank)) .draft .bytes)
+    by-room : (yes : Bool) → taken blank (runReportsIn scope p cs) ≡ yes
+        → cond yes (ranOf (run p cs) (extended blank (runReportsIn scope p cs))) (ranOf p (exceeded blank)) .draft .length
+        ≤ length (cond yes (ranOf (run p cs) (extended blank (runReportsIn scope p cs))) (ranOf p (exceeded blank)) .draft .bytes)
     by-room true e =
-        let room : 0 + length (encodeReports 0 (runReportsIn scope store cs)) ≤ length (blank .bytes) =
-        leb-true (0 + length (encodeReports 0 (runReportsIn scope store cs))) (length (blank .bytes)) (both-true (every encodableReport (runReportsIn scope store cs)) _ e .1) in
-        rw (length-overwrite (blank .bytes) 0 (encodeReports 0 (runReportsIn scope store cs)) room) room
+        let room : 0 + length (encodeReports 0 (runReportsIn scope p cs)) ≤ length (blank .bytes) =
+        leb-true (0 + length (encodeReports 0 (runReportsIn scope p cs))) (length (blank .bytes)) (both-true (every encodableReport (runReportsIn scope p cs)) _ e .1) in
+        rw (length-overwrite (blank .bytes) 0 (encodeReports 0 (runReportsIn scope p cs)) room) room
     by-room false e = omega arith
 
-pub ran-inside : (scope : Scope) (store : Store) (function : ℕ) (block : List ℕ) {ran : Ran} → ran ≡ ranBlock scope store function block → ran .draft .length ≤ length (ran .draft .bytes)
-ran-inside scope store function block e = inside-by scope store (commands function block) e
+pub ran-inside : (scope : Scope) (p : Parameters) (function : ℕ) (block : List ℕ) {ran : Ran} → ran ≡ ranBlock scope p function block → ran .draft .length ≤ length (ran .draft .bytes)
+ran-inside scope p function block e = inside-by scope p (commands function block) e
 
 module _ (ran : Ran) (r : Request) (buffer : List ℕ) where
   pub responded-over : ran .draft .room ≡ Over → respondedWith ran r buffer ≡ refusedWith 12 r buffer
   responded-over e = ap (λ (room : Room). respondedIn room ran r buffer) e
 
-  pub responded-silent : ran .draft .room ≡ Left → ran .draft .length ≡ 0 → respondedWith ran r buffer ≡ outcomeOf (withStore (r .board) (ran .store)) Silence buffer
+  pub responded-silent : ran .draft .room ≡ Left → ran .draft .length ≡ 0 → respondedWith ran r buffer ≡ outcomeOf (withParameters (r .board) (ran .parameters)) Silence buffer
   responded-silent e h = ap (λ (room : Room). respondedIn room ran r buffer) e ∙ rw (eq-eqb _ _ h)
 
   pub responded-long : ran .draft .room ≡ Left → (ran .draft .length ≡ 0 → ⊥) → writable (responseOf ran r) buffer ≡ false → respondedWith ran r buffer ≡ refusedWith 12 r buffer
@@ -83,7 +83,7 @@ module _ (ran : Ran) (r : Request) (buffer : List ℕ) where
   pub responded-full :
       ran .draft .room ≡ Left → (ran .draft .length ≡ 0 → ⊥) → writable (responseOf ran r) buffer ≡ true
       → respondedWith ran r buffer
-      ≡ outcomeOf (withStore (r .board) (ran .store)) (Response (length (packetOf (responseOf ran r)))) (overwrite buffer 0 (packetOf (responseOf ran r)))
+      ≡ outcomeOf (withParameters (r .board) (ran .parameters)) (Response (length (packetOf (responseOf ran r)))) (overwrite buffer 0 (packetOf (responseOf ran r)))
   responded-full e h w = ap (λ (room : Room). respondedIn room ran r buffer) e ∙ rw (ne-eqb _ _ h, w)
 
 -- what framing's writer answered

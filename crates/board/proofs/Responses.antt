@@ -22,44 +22,39 @@ use Rattle.block.specs.Reading.{isSome}
 use Rattle.block.specs.Request.{onlyReads}
 use Rattle.block.proofs.AllReads.{all-reads}
 use Rattle.block.proofs.LowBytes.{isLow, low-bytes}
-use Rattle.store.specs.declared.Answer.the-variants.{Value, Unknown}
-use Rattle.store.specs.declared.Store.{Store}
-use Rattle.store.specs.Laws.{Sized}
 use Rattle.store.specs.Layout.{valueOf}
-use Rattle.store.specs.Operations.{answer}
 use Rattle.store.specs.Rows.{rows, indexIn, known}
 use Rattle.store.specs.Sound as stored
 use Rattle.board.specs.Answering.{answered, refusedWith, respondedWith, responded, scopeOf}
-use Rattle.model.specs.Commands.{afterCommand, reported, reportAs, run, runReports, discovered, discoverReports}
-use Rattle.board.specs.Draft.{blank, taken, extended, exceeded, reportedIn, runReportsIn, selected, ranOf, ranBehind}
-use Rattle.model.specs.Record.{sound, micra, withStore}
+use Rattle.model.specs.Changes.{Sized}
+use Rattle.model.specs.Commands.{afterCommand, reported, run, runReports, discovered, discoverReports}
+use Rattle.commands.specs.Draft.{blank, taken, extended, exceeded, reportedIn, runReportsIn, selected, ranOf, ranBehind}
+use Rattle.model.specs.Record.{sound, micra, withParameters}
 use Rattle.model.specs.Step.{Request, isDiscovery, decoded, reportsOf, otherId, wrongPassword, wrongFunction, malformed, discoveryWrites, longResponse, requestRefusals, Outcome, outcomeOf, nextBoard, answerWith, outcomeBy}
 use Rattle.model.specs.declared.Answer.the-variants.{Silence, Response}
 use Rattle.model.specs.declared.Board.{Board}
-use Rattle.board.specs.declared.commands.Ran.{Ran}
-use Rattle.board.specs.declared.commands.Scope.{Scope}
-use Rattle.board.specs.declared.commands.Scope.the-variants.{All, Identity}
+use Rattle.model.specs.declared.Parameters.{Parameters}
+use Rattle.commands.specs.declared.Ran.{Ran}
+use Rattle.commands.specs.declared.Scope.{Scope}
+use Rattle.commands.specs.declared.Scope.the-variants.{All, Identity}
+use Rattle.model.proofs.Changed.{read-keeps, values-reported}
 use Rattle.model.proofs.EncodableReports.{Fit, fit-after, encodable-join, encodable-reported}
 use Rattle.model.proofs.Soundness.{sound-parts, id-length}
 use Rattle.model.proofs.StepRefusals.{request-refusal-by}
 
--- a read leaves the store as it was
-read-keeps : (store : Store) (c : Command) → isRead c ≡ true → afterCommand store c ≡ store
-unfolding afterCommand
-read-keeps store c h = rw (eqb-true (c .function) 1 h)
-
-reads-keep : (cs : List Command) (store : Store) → every isRead cs ≡ true → run store cs ≡ store
+-- reads leave the parameters as they were
+reads-keep : (cs : List Command) (p : Parameters) → every isRead cs ≡ true → run p cs ≡ p
 unfolding run every
-reads-keep [] store h = refl
-reads-keep (c ∷ cs) store h =
+reads-keep [] p h = refl
+reads-keep (c ∷ cs) p h =
     let both = both-true (isRead c) (every isRead cs) h in
-    ap (λ (s : Store). run s cs) (read-keeps store c (both .0)) ∙ reads-keep cs store (both .1)
+    ap (λ (s : Parameters). run s cs) (read-keeps p c (eqb-true (c .function) 1 (both .0))) ∙ reads-keep cs p (both .1)
 
 -- the reports outside a discovery
-all-reports : (cs : List Command) (store : Store) → runReportsIn All store cs ≡ runReports store cs
+all-reports : (cs : List Command) (p : Parameters) → runReportsIn All p cs ≡ runReports p cs
 unfolding runReportsIn runReports
-all-reports [] store = refl
-all-reports (c ∷ cs) store = ap (λ (rs : List Report). reported (afterCommand store c) c ++ rs) (all-reports cs (afterCommand store c))
+all-reports [] p = refl
+all-reports (c ∷ cs) p = ap (λ (rs : List Report). reported (afterCommand p c) c ++ rs) (all-reports cs (afterCommand p c))
 
 -- the rows of the identity are known
 id-known : known 0x007C ≡ true
@@ -72,54 +67,52 @@ type-known = refl
 
 -- a read of a known parameter
 read-held :
-    (store : Store) (c : Command) (n : ℕ) (value : List ℕ) → isRead c ≡ true → commandNumber c ≡ n → known n ≡ true → valueOf store n ≡ value
-    → reported store c ≡ held (c .page) (c .low) value ∷ []
-unfolding reported
-read-held store c n value read named is-known e =
-    ap (λ (f : ℕ). reportAs (answer f (commandNumber c) (c .value)) store c) (eqb-true (c .function) 1 read)
-    ∙ ap (λ (k : Bool). reportAs (cond k Value Unknown) store c) (ap known named ∙ is-known)
-    ∙ ap (λ (v : List ℕ). held (c .page) (c .low) v ∷ []) (ap (valueOf store) named ∙ e)
+    (p : Parameters) (c : Command) (n : ℕ) (value : List ℕ) → isRead c ≡ true → commandNumber c ≡ n → known n ≡ true → valueOf (p .store) n ≡ value
+    → reported p c ≡ held (c .page) (c .low) value ∷ []
+read-held p c n value read named is-known e =
+    values-reported p c .value (ap (λ (f : ℕ). eqb f 2) (eqb-true (c .function) 1 read)) (ap known named ∙ is-known)
+    ∙ ap (λ (v : List ℕ). held (c .page) (c .low) v ∷ []) (ap (valueOf (p .store)) named ∙ e)
 
 -- the reports of a discovery
-module _ (id : List ℕ) (store : Store) (own-id : valueOf store 0x007C ≡ id) (unit-type : valueOf store 0x00B9 ≡ micra) where
-  identity-report : (c : Command) → isRead c ≡ true → reportedIn Identity store c ≡ discovered id c
+module _ (id : List ℕ) (p : Parameters) (own-id : valueOf (p .store) 0x007C ≡ id) (unit-type : valueOf (p .store) 0x00B9 ≡ micra) where
+  identity-report : (c : Command) → isRead c ≡ true → reportedIn Identity p c ≡ discovered id c
   unfolding discovered
   identity-report c read = by-number (eqb (commandNumber c) 0x007C) (eqb (commandNumber c) 0x00B9) refl refl
     where
       by-number :
           (is-id is-type : Bool) → eqb (commandNumber c) 0x007C ≡ is-id → eqb (commandNumber c) 0x00B9 ≡ is-type
-          → cond (is-id || is-type) (reported store c) []
+          → cond (is-id || is-type) (reported p c) []
           ≡ cond is-id (held (c .page) (c .low) id ∷ []) (cond is-type (held (c .page) (c .low) micra ∷ []) [])
-      by-number true is-type p q = read-held store c 0x007C id read (eqb-true _ _ p) id-known own-id
-      by-number false true p q = read-held store c 0x00B9 micra read (eqb-true _ _ q) type-known unit-type
-      by-number false false p q = refl
+      by-number true is-type e other = read-held p c 0x007C id read (eqb-true _ _ e) id-known own-id
+      by-number false true e other = read-held p c 0x00B9 micra read (eqb-true _ _ other) type-known unit-type
+      by-number false false e other = refl
 
-  identity-reports : (cs : List Command) → every isRead cs ≡ true → runReportsIn Identity store cs ≡ discoverReports id cs
+  identity-reports : (cs : List Command) → every isRead cs ≡ true → runReportsIn Identity p cs ≡ discoverReports id cs
   unfolding runReportsIn discoverReports every
   identity-reports [] h = refl
   identity-reports (c ∷ cs) h =
       let both = both-true (isRead c) (every isRead cs) h in
-      ap (λ (s : Store). reportedIn Identity s c ++ runReportsIn Identity s cs) (read-keeps store c (both .0))
+      ap (λ (s : Parameters). reportedIn Identity s c ++ runReportsIn Identity s cs) (read-keeps p c (eqb-true (c .function) 1 (both .0)))
       ∙ (λ i. identity-report c (both .0) i ++ identity-reports cs (both .1) i)
 
 -- each report has a form
-encodable-report : (scope : Scope) (store : Store) (c : Command) → stored.sound store ≡ true → isLow c ≡ true → every encodableReport (reportedIn scope store c) ≡ true
+encodable-report : (scope : Scope) (p : Parameters) (c : Command) → stored.sound (p .store) ≡ true → isLow c ≡ true → every encodableReport (reportedIn scope p c) ≡ true
 unfolding every
-encodable-report scope store c sound low = by-scope (selected scope (commandNumber c))
+encodable-report scope p c sound low = by-scope (selected scope (commandNumber c))
   where
-    by-scope : (chosen : Bool) → every encodableReport (cond chosen (reported store c) []) ≡ true
-    by-scope true = encodable-reported store c sound low
+    by-scope : (chosen : Bool) → every encodableReport (cond chosen (reported p c) []) ≡ true
+    by-scope true = encodable-reported p c sound low
     by-scope false = refl
 
-encodable-reports : (scope : Scope) (cs : List Command) (store : Store) → Fit store → every isLow cs ≡ true → every encodableReport (runReportsIn scope store cs) ≡ true
+encodable-reports : (scope : Scope) (cs : List Command) (p : Parameters) → Fit p → every isLow cs ≡ true → every encodableReport (runReportsIn scope p cs) ≡ true
 unfolding runReportsIn every
-encodable-reports scope [] store fit h = refl
-encodable-reports scope (c ∷ cs) store fit h =
+encodable-reports scope [] p fit h = refl
+encodable-reports scope (c ∷ cs) p fit h =
     let both = both-true (isLow c) (every isLow cs) h in
-    let next : Fit (afterCommand store c) = fit-after store c fit in
-    encodable-join (reportedIn scope (afterCommand store c) c) _
-    (encodable-report scope (afterCommand store c) c (next .is-sound) (both .0))
-    (encodable-reports scope cs (afterCommand store c) next (both .1))
+    let next : Fit (afterCommand p c) = fit-after p c fit in
+    encodable-join (reportedIn scope (afterCommand p c) c) _
+    (encodable-report scope (afterCommand p c) c (next .is-sound) (both .0))
+    (encodable-reports scope cs (afterCommand p c) next (both .1))
 
 -- no report is written in no bytes
 some-body : (r : Report) → 1 ≤ length (reportBody r)
@@ -161,9 +154,9 @@ abbrev writing : ℕ → List ℕ → Board → Request → List ℕ → Outcome
 writing size block next r buffer =
     cond (eqb size 0) (outcomeOf next Silence buffer) (cond (writable (sent r block) buffer) (sending next r block buffer) (refusedWith 12 r buffer))
 
--- and what it has after the commands: their reports, or the store as it was
-abbrev ranFor : Bool → List Report → Store → Request → Ran
-ranFor fit reports next r = cond fit (ranOf next (extended blank reports)) (ranOf (r .board .store) (exceeded blank))
+-- and what it has after the commands: their reports, or the parameters as they were
+abbrev ranFor : Bool → List Report → Parameters → Request → Ran
+ranFor fit reports next r = cond fit (ranOf next (extended blank reports)) (ranOf (r .board .parameters) (exceeded blank))
 
 taken-blank : (reports : List Report) → every encodableReport reports ≡ true → taken blank reports ≡ leb (length (encodeReports 0 reports)) 232
 taken-blank reports encodable = λ i. encodable i && leb (zero-add (length (encodeReports 0 reports)) i) (length-replicate {A = ℕ} 232 0 i)
@@ -205,21 +198,21 @@ module _ (r : Request) (buffer : List ℕ) (legal : sound (r .board) ≡ true) (
       by-length false = refl
 
   -- the commands were run, or their reports had no room
-  module _ (reports : List Report) (next : Store) where
+  module _ (reports : List Report) (next : Parameters) where
     run-by :
         (fit : Bool) → leb (length (encodeReports 0 reports)) 232 ≡ fit
-        → respondedWith (ranFor fit reports next r) r buffer ≡ responding reports (withStore (r .board) next) r buffer
+        → respondedWith (ranFor fit reports next r) r buffer ≡ responding reports (withParameters (r .board) next) r buffer
     run-by true e =
-        (λ i. writing (zero-add (length (encodeReports 0 reports)) i) (written-block (encodeReports 0 reports) i) (withStore (r .board) next) r buffer)
-        ∙ writing-reports reports (withStore (r .board) next)
+        (λ i. writing (zero-add (length (encodeReports 0 reports)) i) (written-block (encodeReports 0 reports) i) (withParameters (r .board) next) r buffer)
+        ∙ writing-reports reports (withParameters (r .board) next)
     run-by false e =
         let long : 256 < packetLength (sent r (encodeReports 0 reports)) = omega (arith, leb-false (length (encodeReports 0 reports)) 232 e) in
-        sym (ap (λ (t : Bool). cond t (refusedWith 12 r buffer) (answerAs reports (withStore (r .board) next) r buffer)) (lt-ltb _ _ long))
+        sym (ap (λ (t : Bool). cond t (refusedWith 12 r buffer) (answerAs reports (withParameters (r .board) next) r buffer)) (lt-ltb _ _ long))
 
     -- what the definition says, by the reports and the next record
     defined :
-        reportsOf r ≡ reports → nextBoard r ≡ withStore (r .board) next
-        → outcomeBy (cond (longResponse r) (some 12) none) r buffer ≡ responding reports (withStore (r .board) next) r buffer
+        reportsOf r ≡ reports → nextBoard r ≡ withParameters (r .board) next
+        → outcomeBy (cond (longResponse r) (some 12) none) r buffer ≡ responding reports (withParameters (r .board) next) r buffer
     defined e n =
         by-length (longResponse r)
         ∙ (λ i. cond (ltb 256 (packetLength (sent r (encodeReports 0 (e i))))) (refusedWith 12 r buffer) (by-reports reports e i))
@@ -228,37 +221,37 @@ module _ (r : Request) (buffer : List ℕ) (legal : sound (r .board) ≡ true) (
         by-length true = refl
         by-length false = refl
 
-        by-reports : (rs : List Report) → reportsOf r ≡ rs → answerWith (reportsOf r) r buffer ≡ answerAs rs (withStore (r .board) next) r buffer
+        by-reports : (rs : List Report) → reportsOf r ≡ rs → answerWith (reportsOf r) r buffer ≡ answerAs rs (withParameters (r .board) next) r buffer
         by-reports [] p = ap (λ (rs : List Report). answerWith rs r buffer) p ∙ (λ i. outcomeOf (n i) Silence buffer)
         by-reports (first ∷ rest) p =
             ap (λ (rs : List Report). answerWith rs r buffer) p ∙ (λ i. sending (n i) r (encodeReports 0 (p i)) buffer)
 
-  module _ (sized : Sized (r .board .store)) where
-    store-fit : Fit (r .board .store)
-    store-fit = record { size = sized; is-sound = sound-parts (r .board) legal .held }
+  module _ (sized : Sized (r .board .parameters)) where
+    parameters-fit : Fit (r .board .parameters)
+    parameters-fit = record { size = sized; is-sound = sound-parts (r .board) legal .held }
 
     -- the commands of a block that is run
     run-responds :
-        (scope : Scope) (cs : List Command) → decoded r ≡ some cs → reportsOf r ≡ runReportsIn scope (r .board .store) cs
-        → nextBoard r ≡ withStore (r .board) (run (r .board .store) cs)
+        (scope : Scope) (cs : List Command) → decoded r ≡ some cs → reportsOf r ≡ runReportsIn scope (r .board .parameters) cs
+        → nextBoard r ≡ withParameters (r .board) (run (r .board .parameters) cs)
         → responded scope r buffer ≡ outcomeBy (cond (longResponse r) (some 12) none) r buffer
     run-responds scope cs e reports next =
-        let said : List Report = runReportsIn scope (r .board .store) cs in
+        let said : List Report = runReportsIn scope (r .board .parameters) cs in
         let encodable : every encodableReport said ≡ true =
-        encodable-reports scope cs (r .board .store) store-fit (low-bytes (r .frame .function) (r .frame .block) cs e) in
-        ap (λ (o : Option (List Command)). respondedWith (ranBehind (ranOf (r .board .store) (exceeded blank)) scope (r .board .store) blank o) r buffer) e
-        ∙ ap (λ (fit : Bool). respondedWith (ranFor fit said (run (r .board .store) cs) r) r buffer) (taken-blank said encodable)
-        ∙ run-by said (run (r .board .store) cs) (leb (length (encodeReports 0 said)) 232) refl
-        ∙ sym (defined said (run (r .board .store) cs) reports next)
+        encodable-reports scope cs (r .board .parameters) parameters-fit (low-bytes (r .frame .function) (r .frame .block) cs e) in
+        ap (λ (o : Option (List Command)). respondedWith (ranBehind (ranOf (r .board .parameters) (exceeded blank)) scope (r .board .parameters) blank o) r buffer) e
+        ∙ ap (λ (fit : Bool). respondedWith (ranFor fit said (run (r .board .parameters) cs) r) r buffer) (taken-blank said encodable)
+        ∙ run-by said (run (r .board .parameters) cs) (leb (length (encodeReports 0 said)) 232) refl
+        ∙ sym (defined said (run (r .board .parameters) cs) reports next)
 
     reports-by : {discovery : Bool} {cs : List Command} → isDiscovery r ≡ discovery → decoded r ≡ some cs
-        → reportsOf r ≡ cond discovery (discoverReports (r .board .id) cs) (runReports (r .board .store) cs)
+        → reportsOf r ≡ cond discovery (discoverReports (r .board .id) cs) (runReports (r .board .parameters) cs)
     reports-by d e =
-        λ i. cond (d i) (discoverReports (r .board .id) (Option·getD (e i) [])) (runReports (r .board .store) (Option·getD (e i) []))
+        λ i. cond (d i) (discoverReports (r .board .id) (Option·getD (e i) [])) (runReports (r .board .parameters) (Option·getD (e i) []))
 
     next-by : {discovery : Bool} {cs : List Command} → isDiscovery r ≡ discovery → decoded r ≡ some cs
-        → nextBoard r ≡ cond discovery (r .board) (withStore (r .board) (run (r .board .store) cs))
-    next-by d e = λ i. cond (d i) (r .board) (withStore (r .board) (run (r .board .store) (Option·getD (e i) [])))
+        → nextBoard r ≡ cond discovery (r .board) (withParameters (r .board) (run (r .board .parameters) cs))
+    next-by d e = λ i. cond (d i) (r .board) (withParameters (r .board) (run (r .board .parameters) (Option·getD (e i) [])))
 
     responds-by :
         (discovery : Bool) → isDiscovery r ≡ discovery → malformed r ≡ false
@@ -268,11 +261,11 @@ module _ (r : Request) (buffer : List ℕ) (legal : sound (r .board) ≡ true) (
         let (cs, e, all) = all-reads (r .frame .function) (r .frame .block) (not-false _ reads) in
         let parts = sound-parts (r .board) legal in
         run-responds Identity cs e
-        (reports-by d e ∙ sym (identity-reports (r .board .id) (r .board .store) (parts .own-id) (parts .unit-type) cs all))
-        (next-by d e ∙ ap (withStore (r .board)) (sym (reads-keep cs (r .board .store) all)))
+        (reports-by d e ∙ sym (identity-reports (r .board .id) (r .board .parameters) (parts .own-id) (parts .unit-type) cs all))
+        (next-by d e ∙ ap (withParameters (r .board)) (sym (reads-keep cs (r .board .parameters) all)))
     responds-by false d formed reads =
         let (cs, e) = some-commands (decoded r) formed in
-        run-responds All cs e (reports-by d e ∙ sym (all-reports cs (r .board .store))) (next-by d e)
+        run-responds All cs e (reports-by d e ∙ sym (all-reports cs (r .board .parameters))) (next-by d e)
 
     behind-nine :
         (block-malformed discovery-writes : Bool) → malformed r ≡ block-malformed → discoveryWrites r ≡ discovery-writes
@@ -300,6 +293,6 @@ module _ (r : Request) (buffer : List ℕ) (legal : sound (r .board) ≡ true) (
         ∙ ap (λ (o : Option ℕ). outcomeBy o r buffer) (sym (request-refusal-by r refl refl refl refl refl refl))
 
 pub answered-outcome :
-    (r : Request) (buffer : List ℕ) → sound (r .board) ≡ true → Sized (r .board .store) → length (r .frame .password) ≤ 8 → 256 ≤ length buffer
+    (r : Request) (buffer : List ℕ) → sound (r .board) ≡ true → Sized (r .board .parameters) → length (r .frame .password) ≤ 8 → 256 ≤ length buffer
     → answered r buffer ≡ outcomeBy (firstRefusal requestRefusals r) r buffer
 answered-outcome r buffer legal sized short room = by-checks r buffer legal short room sized

@@ -17,6 +17,7 @@ use Rattle.framing.specs.Refusal.{firstRefusal}
 use Rattle.board.specs.Answering.{laid, recordOf}
 use Rattle.store.specs.Layout.{sizeOf, valueOf}
 use Rattle.store.specs.Sound as rows
+use Rattle.schedule.specs.Entries as entries
 use Rattle.store.specs.Operations.{measurable, measurement as measurementOf, refusalOf}
 use Rattle.store.specs.Rows.{rowOf}
 use Rattle.store.specs.declared.Measurement.{Measurement}
@@ -119,11 +120,18 @@ module _ (board : Board) where
   unfolding sound
   unsound-mode h = rw (h, and-false)
 
+  pub unsound-entries : entries.sound (board .parameters .schedule) ≡ false → sound board ≡ false
+  unfolding sound
+  unsound-entries h = rw (h, and-false)
+
   pub sound-rows :
       isId (board .id) ≡ true → leb (board .size) 8 ≡ true → allAlphanumeric (passwordOf board) ≡ true → isMode (board .mode) ≡ true
-      → sound board ≡ (rows.sound (board .store) && same (valueOf (board .store) 0x007C) (board .id) && same (valueOf (board .store) 0x00B9) micra)
+      → entries.sound (board .parameters .schedule) ≡ true
+      → sound board
+      ≡ (rows.sound (board .parameters .store) && same (valueOf (board .parameters .store) 0x007C) (board .id)
+      && same (valueOf (board .parameters .store) 0x00B9) micra)
   unfolding sound
-  sound-rows a b c d = rw (a, b, c, d)
+  sound-rows a b c d e = rw (a, b, c, d, e)
 
 -- a password that is short enough is judged by its characters
 pub wrong-characters : (password : List ℕ) → length password ≤ 8 → isPassword password ≡ false → allAlphanumeric password ≡ false

@@ -11,19 +11,20 @@ use Rattle.framing.specs.Packet.{writable}
 use Rattle.framing.specs.declared.Parsed.{Parsed}
 use Rattle.framing.specs.declared.Parsed.the-variants.{Frame as Places, Refused as Not}
 use Rattle.store.specs.Start.{start}
-use Rattle.board.specs.Draft.{ranBlock}
-use Rattle.model.specs.Record.{withStore}
+use Rattle.schedule.specs.Entries as entries
+use Rattle.commands.specs.Draft.{ranBlock}
+use Rattle.model.specs.Record.{parametersOf, withParameters}
 use Rattle.model.specs.Step.{Request, Outcome, outcomeOf, isDiscovery, otherId, wrongPassword, wrongFunction, malformed, discoveryWrites}
 use Rattle.model.specs.declared.Answer.the-variants.{Refused, Silence, Response}
 use Rattle.model.specs.declared.Board.{Board}
 use Rattle.model.specs.declared.Stepped.{Stepped}
 use Rattle.board.specs.declared.checks.Check.{Check}
 use Rattle.board.specs.declared.checks.Check.the-variants.{Passed, Failed}
-use Rattle.board.specs.declared.commands.Ran.{Ran}
-use Rattle.board.specs.declared.commands.Scope.{Scope}
-use Rattle.board.specs.declared.commands.Scope.the-variants.{All, Identity}
-use Rattle.board.specs.declared.draft.Room.{Room}
-use Rattle.board.specs.declared.draft.Room.the-variants.{Left, Over}
+use Rattle.commands.specs.declared.Ran.{Ran}
+use Rattle.commands.specs.declared.Scope.{Scope}
+use Rattle.commands.specs.declared.Scope.the-variants.{All, Identity}
+use Rattle.commands.specs.declared.draft.Room.{Room}
+use Rattle.commands.specs.declared.draft.Room.the-variants.{Left, Over}
 
 abbrev pub checked : Bool → Check
 checked wrong = cond wrong Failed Passed
@@ -51,7 +52,7 @@ recordOf id password mode =
       password = laid 8 password;
       size = length (cond (leb (length password) 8) password []);
       mode = mode;
-      store = start (laid 16 id);
+      parameters = parametersOf (start (laid 16 id)) entries.start;
     }
 
 abbrev pub refusedWith : ℕ → Request → List ℕ → Outcome
@@ -64,16 +65,16 @@ responseOf ran r = frame (r .board .id) (r .frame .password) 0x06 (take (ran .dr
 abbrev pub respondedIn : Room → Ran → Request → List ℕ → Outcome
 respondedIn Over ran r buffer = refusedWith 12 r buffer
 respondedIn Left ran r buffer =
-    cond (eqb (ran .draft .length) 0) (outcomeOf (withStore (r .board) (ran .store)) Silence buffer)
+    cond (eqb (ran .draft .length) 0) (outcomeOf (withParameters (r .board) (ran .parameters)) Silence buffer)
     (cond (writable (responseOf ran r) buffer)
-    (outcomeOf (withStore (r .board) (ran .store)) (Response (length (packetOf (responseOf ran r)))) (overwrite buffer 0 (packetOf (responseOf ran r))))
+    (outcomeOf (withParameters (r .board) (ran .parameters)) (Response (length (packetOf (responseOf ran r)))) (overwrite buffer 0 (packetOf (responseOf ran r))))
     (refusedWith 12 r buffer))
 
 abbrev pub respondedWith : Ran → Request → List ℕ → Outcome
 respondedWith ran r buffer = respondedIn (ran .draft .room) ran r buffer
 
 abbrev pub responded : Scope → Request → List ℕ → Outcome
-responded scope r buffer = respondedWith (ranBlock scope (r .board .store) (r .frame .function) (r .frame .block)) r buffer
+responded scope r buffer = respondedWith (ranBlock scope (r .board .parameters) (r .frame .function) (r .frame .block)) r buffer
 
 -- a request: the checks 7 to 11, then the response or 12
 unfoldable pub answered : Request → List ℕ → Outcome

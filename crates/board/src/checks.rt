@@ -1,5 +1,5 @@
 // The checks of the board's calls, each the condition of one refusal.
-use super::commands::Scope;
+use commands::Scope;
 ghost use mathlib.Core.Bool.{not, _&&_, _||_};
 ghost use mathlib.Core.Path.{_≡_};
 ghost use lib.Dec.{eqb, leb, ltb};

@@ -1,7 +1,5 @@
 // The board: set-up, packets and measurements over framing, block and store.
 mod checks;
-mod commands;
-mod draft;
 mod packets;
 mod records;
 

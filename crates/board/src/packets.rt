@@ -1,10 +1,9 @@
 // What a packet is answered with.
 use super::checks;
 use super::checks::Check;
-use super::commands;
-use super::commands::Scope;
-use super::draft::Room;
 use super::records;
+use commands::Scope;
+use commands::draft::Room;
 use framing::Parsed;
 use framing::Written;
 use model::Answer;
@@ -36,13 +35,13 @@ fn respond(
 ) -> Stepped
     ensures { λ r. ⌜ Leaves (responded scope (requestOf board (frame (now (id .entry)) (now (password .entry)) function (now (bytes .entry)))) (now (response .entry))) r (now (response .exit)) ⌝ }
 {
-    let ran = commands::run(scope, board.store, function, bytes);
+    let ran = commands::run(scope, board.parameters, function, bytes);
     let draft = ran.draft;
     let room = draft.room;
     let Room::Left = room else {
         return refused(board, 12);
     };
-    let next = records::with_store(board, ran.store);
+    let next = records::with_parameters(board, ran.parameters);
     let length = draft.length;
     if length == 0 {
         return Stepped {

@@ -1,9 +1,10 @@
 // A board's record: made by set-up, and judged by every call that takes one.
 use super::checks;
 use super::checks::Check;
-use super::commands::Scope;
+use commands::Scope;
 use model::Answered;
 use model::Board;
+use model::Parameters;
 use model::Verdict;
 use store::Measurement;
 use store::Store;
@@ -13,9 +14,11 @@ ghost use Rattle.octets.specs.Octets.{same};
 ghost use Rattle.store.specs.Layout.{valueOf};
 ghost use Rattle.store.specs.Operations.{refusalOf};
 ghost use Rattle.store.specs.Sound.{sound as rowsSound};
+ghost use Rattle.store.specs.Start.{start as startRows};
+ghost use Rattle.schedule.specs.Entries.{start as startEntries};
 ghost use Rattle.board.specs.Answering.{checked, inIdentity, laid, recordOf};
 ghost use Rattle.model.specs.Measurement.{MeasuresBoard, measureCall};
-ghost use Rattle.model.specs.Record.{SetsUp, micra, passwordOf, setUp, sound, startBoard, unset, withStore};
+ghost use Rattle.model.specs.Record.{SetsUp, micra, parametersOf, passwordOf, setUp, sound, startBoard, unset, withParameters};
 
 fn in_sixteen(bytes: &[u8]) -> [u8; 16]
     ensures { λ r. ⌜ r ≡ laid 16 (now (bytes .entry)) ⌝ }
@@ -33,6 +36,16 @@ fn in_eight(bytes: &[u8]) -> [u8; 8]
     array
 }
 
+// The rows and the schedule as set-up leaves them.
+fn start_parameters(id: [u8; 16]) -> Parameters
+    ensures { λ r. ⌜ r ≡ parametersOf (startRows id) startEntries ⌝ }
+{
+    Parameters {
+        store: store::start(id),
+        schedule: schedule::start(),
+    }
+}
+
 // The start record of an ID of 16 bytes and a password of at most 8.
 fn start(id: &[u8], password: &[u8], mode: u8) -> Board
     ensures { λ r. ⌜ r ≡ recordOf (now (id .entry)) (now (password .entry)) mode ⌝ }
@@ -45,7 +58,7 @@ fn start(id: &[u8], password: &[u8], mode: u8) -> Board
             password: secret,
             size: 0,
             mode,
-            store: store::start(own),
+            parameters: start_parameters(own),
         };
     }
     Board {
@@ -53,7 +66,7 @@ fn start(id: &[u8], password: &[u8], mode: u8) -> Board
         password: secret,
         size: password.len() as u8,
         mode,
-        store: store::start(own),
+        parameters: start_parameters(own),
     }
 }
 
@@ -123,7 +136,11 @@ pub(crate) fn check_record(board: Board) -> Check
     let Check::Passed = checks::check_mode(board.mode) else {
         return Check::Failed;
     };
-    check_rows(id, board.store)
+    let parameters = board.parameters;
+    if !schedule::sound(parameters.schedule) {
+        return Check::Failed;
+    }
+    check_rows(id, parameters.store)
 }
 
 // 8.
@@ -138,8 +155,8 @@ pub(crate) fn check_password(scope: Scope, board: Board, password: &[u8]) -> Che
     checks::check_password(scope, &own[..size], password)
 }
 
-pub(crate) fn with_store(board: Board, store: Store) -> Board
-    ensures { λ r. ⌜ r ≡ withStore board store ⌝ }
+pub(crate) fn with_parameters(board: Board, parameters: Parameters) -> Board
+    ensures { λ r. ⌜ r ≡ withParameters board parameters ⌝ }
 {
     let id = board.id;
     let password = board.password;
@@ -148,7 +165,7 @@ pub(crate) fn with_store(board: Board, store: Store) -> Board
         password,
         size: board.size,
         mode: board.mode,
-        store,
+        parameters,
     }
 }
 
@@ -171,7 +188,8 @@ pub(crate) fn measure(board: Board, number: u16, value: &[u8]) -> Answered
             verdict: Verdict::Refused(70),
         };
     };
-    let measured = store::measure(board.store, number, value);
+    let held = board.parameters;
+    let measured = store::measure(held.store, number, value);
     let answer = measured.answer;
     let Measurement::Accepted = answer else {
         return Answered {
@@ -180,8 +198,10 @@ pub(crate) fn measure(board: Board, number: u16, value: &[u8]) -> Answered
         };
     };
     let store = measured.store;
+    let schedule = held.schedule;
+    let parameters = Parameters { store, schedule };
     Answered {
-        board: with_store(board, store),
+        board: with_parameters(board, parameters),
         verdict: Verdict::Accepted,
     }
 }

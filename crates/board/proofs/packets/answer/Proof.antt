@@ -4,7 +4,7 @@ use denote.Ref.{now}
 use Rattle.framing.specs.Frame.{frame}
 use Rattle.board.specs.Answering.{responded}
 use Rattle.model.specs.Step.{requestOf}
-use Rattle.board.specs.declared.commands.Scope.{Scope}
+use Rattle.commands.specs.declared.Scope.{Scope}
 use Rattle.board.proofs.Responding.{leaves, leaves-as, answered-by, password-told, reads-told}
 use Rattle.board.proofs.Checking.{passed, failed}
 use borrow.Author.Needs.{needs}

@@ -8,8 +8,8 @@ use Rattle.framing.specs.Frame.{frame}
 use Rattle.board.specs.Answering.{respondedWith, responded, inIdentity, checked, scopeOf}
 use Rattle.model.specs.Step.{requestOf, isDiscovery}
 use Rattle.model.specs.Record.{passwordOf}
-use Rattle.board.specs.declared.commands.Ran.{Ran}
-use Rattle.board.specs.declared.commands.Scope.{Scope}
+use Rattle.commands.specs.declared.Ran.{Ran}
+use Rattle.commands.specs.declared.Scope.{Scope}
 use Rattle.model.specs.declared.Answer.the-variants.{Response}
 use Rattle.board.proofs.Responding.{leaves, leaves-as, ran-inside, responded-over, responded-silent, responded-long, responded-full, frame-written, frame-not-written}
 use Rattle.board.proofs.Checking.{passed, failed}
@@ -38,8 +38,8 @@ returns c =
     let run = ap (λ (ran : Ran). respondedWith ran request buffer) (sym (c .before .before .before .before .run .ensures)) in
     leaves (run ∙ responded-over ran request buffer (c .before .enum-told2 .given .1)) (c .refused .ensures .0) (c .refused .ensures .1) refl
 
-with-store-requires : tie.Need-with-store-requires
-with-store-requires c κs = search needs
+with-parameters-requires : tie.Need-with-parameters-requires
+with-parameters-requires c κs = search needs
 
 returns-2 : tie.Need-returns-2
 returns-2 c =
@@ -48,7 +48,7 @@ returns-2 c =
     let buffer = now (args .response) in
     let ran = c .before .before .before .before .before .run .result in
     let run = ap (λ (ran : Ran). respondedWith ran request buffer) (sym (c .before .before .before .before .before .run .ensures)) in
-    leaves (run ∙ responded-silent ran request buffer (c .before .before .enum-told .given .1) (c .if1 .taken)) (c .before .with-store .ensures) refl refl
+    leaves (run ∙ responded-silent ran request buffer (c .before .before .enum-told .given .1) (c .if1 .taken)) (c .before .with-parameters .ensures) refl refl
 
 slice-aggregate-write : tie.Need-slice-aggregate-write
 slice-aggregate-write c = let whole : length (c .before .before .before .before .before .before .before .before .before .before .before .before .before .before .args .board .id) ≡ 16 = search (needs, c .before .before .before .before .before .before .before .before .before .before .before .before .before .before .good) in sym whole
@@ -95,7 +95,7 @@ returns-4 c =
     let ran = c .before .before .before .before .before .before .before .before .before .before .before .before .before .before .before .before .run .result in
     let run = ap (λ (ran : Ran). respondedWith ran request buffer) (sym (c .before .before .before .before .before .before .before .before .before .before .before .before .before .before .before .before .run .ensures)) in
     let written = frame-written (c .before .before .before .before .before .write .ensures) (c .before .written .given .1) in
-    leaves (run ∙ responded-full ran request buffer (c .before .before .before .before .before .before .before .before .before .before .before .before .before .enum-told .given .1) (c .before .before .before .before .before .before .before .before .before .before .before .if1 .left) (written .0)) (c .before .before .before .before .before .before .before .before .before .before .before .before .with-store .ensures) (ap Response (written .1)) (c .before .before .before .before .before .write .ensures .held ∙ rw (written .0))
+    leaves (run ∙ responded-full ran request buffer (c .before .before .before .before .before .before .before .before .before .before .before .before .before .enum-told .given .1) (c .before .before .before .before .before .before .before .before .before .before .before .if1 .left) (written .0)) (c .before .before .before .before .before .before .before .before .before .before .before .before .with-parameters .ensures) (ap Response (written .1)) (c .before .before .before .before .before .write .ensures .held ∙ rw (written .0))
 
 pub respond-spec : {M : Type 1} → statement M
 respond-spec =
@@ -106,7 +106,7 @@ respond-spec =
     enum-told-2
     refused-requires
     returns
-    with-store-requires
+    with-parameters-requires
     returns-2
     slice-aggregate-write
     array-share-prefix-reports

@@ -14,7 +14,7 @@ use Rattle.framing.specs.Identity.{allAlphanumeric, isPassword}
 use Rattle.board.specs.Answering.{checked}
 use Rattle.model.specs.Record.{isId, isMode, passwordOf}
 use Rattle.board.proofs.Checking.{passed, failed}
-use Rattle.board.proofs.Starting.{unsound-id, unsound-size, unsound-password, unsound-mode, sound-rows, wrong-characters}
+use Rattle.board.proofs.Starting.{unsound-id, unsound-size, unsound-password, unsound-mode, unsound-entries, sound-rows, wrong-characters}
 use borrow.Author.Needs.{needs}
 use Rattle.board.proofs.records.check_record.Statement.{statement}
 use Rattle.board.proofs.records.check_record.Tie as tie
@@ -83,20 +83,29 @@ returns-4 c =
     let board = c .before .before .before .before .before .before .before .before .before .before .before .before .before .before .before .args .board in
     sym (ap (λ (right : Bool). checked (not right)) (unsound-mode board (not-true _ (failed _ (c .before .before .check-mode .ensures) (c .enum-told6 .given .1)))))
 
-check-rows-requires : tie.Need-check-rows-requires
-check-rows-requires c κs = search needs
+sound-requires : tie.Need-sound-requires
+sound-requires c κs = search needs
 
 returns-5 : tie.Need-returns-5
 returns-5 c =
-    let board = c .before .before .before .before .before .before .before .before .before .before .before .before .before .before .before .before .args .board in
-    let size = c .before .before .before .before .before .before .before .before .before .before .wide .result in
-    let short : board .size ≤ 8 = omega (arith, c .before .before .before .before .before .before .before .before .before .before .wide .ensures) in
-    let right = not-false _ (passed _ (c .before .before .before .before .before .before .check-new-password .ensures) (c .before .before .before .before .enum-told3 .given .1)) in
+    let board = c .before .before .before .before .before .before .before .before .before .before .before .before .before .before .before .before .before .before .args .board in
+    sym (ap (λ (right : Bool). checked (not right)) (unsound-entries board (sym (c .before .sound .ensures) ∙ not-true _ (c .if2 .taken))))
+
+check-rows-requires : tie.Need-check-rows-requires
+check-rows-requires c κs = search needs
+
+returns-6 : tie.Need-returns-6
+returns-6 c =
+    let board = c .before .before .before .before .before .before .before .before .before .before .before .before .before .before .before .before .before .before .before .args .board in
+    let size = c .before .before .before .before .before .before .before .before .before .before .before .before .before .wide .result in
+    let short : board .size ≤ 8 = omega (arith, c .before .before .before .before .before .before .before .before .before .before .before .before .before .wide .ensures) in
+    let right = not-false _ (passed _ (c .before .before .before .before .before .before .before .before .before .check-new-password .ensures) (c .before .before .before .before .before .before .before .enum-told3 .given .1)) in
     let characters = both-true (leb (length (take size (board .password))) 8) _ right .1 in
     c .check-rows .ensures
-    ∙ sym (ap (λ (right : Bool). checked (not right)) (sound-rows board (not-false _ (passed _ (c .before .before .before .before .before .before .before .before .before .before .before .before .before .check-id .ensures) (c .before .before .before .before .before .before .before .before .before .before .before .enum-told .given .1))) (le-leb _ _ short)
-    (ap (λ (n : ℕ). allAlphanumeric (take n (board .password))) (sym (c .before .before .before .before .before .before .before .before .before .before .wide .ensures)) ∙ characters)
-    (not-false _ (passed _ (c .before .before .before .check-mode .ensures) (c .before .enum-told5 .given .1)))))
+    ∙ sym (ap (λ (right : Bool). checked (not right)) (sound-rows board (not-false _ (passed _ (c .before .before .before .before .before .before .before .before .before .before .before .before .before .before .before .before .check-id .ensures) (c .before .before .before .before .before .before .before .before .before .before .before .before .before .before .enum-told .given .1))) (le-leb _ _ short)
+    (ap (λ (n : ℕ). allAlphanumeric (take n (board .password))) (sym (c .before .before .before .before .before .before .before .before .before .before .before .before .before .wide .ensures)) ∙ characters)
+    (not-false _ (passed _ (c .before .before .before .before .before .before .check-mode .ensures) (c .before .before .before .before .enum-told5 .given .1)))
+    (sym (c .before .before .sound .ensures) ∙ not-false _ (c .before .if2 .left))))
 
 pub check-record-spec : {M : Type 1} → statement M
 check-record-spec =
@@ -119,5 +128,7 @@ check-record-spec =
     enum-told-5
     enum-told-6
     returns-4
+    sound-requires
+    returns-5
     check-rows-requires
-    returns-5)
+    returns-6)

@@ -3,7 +3,7 @@ use mathlib.Core.Path.{_≡_, refl, sym, ap, _∙_}
 use denote.Ref.{now}
 use Rattle.store.specs.declared.Store.{Store}
 use Rattle.model.specs.Measurement.{measureCall}
-use Rattle.model.specs.Record.{withStore}
+use Rattle.model.specs.Record.{parametersOf, withParameters}
 use Rattle.model.specs.declared.Verdict.the-variants.{Refused}
 use Rattle.board.proofs.Checking.{passed, failed}
 use Rattle.board.proofs.Starting.{measure-refusal-by, measure-refused, measure-accepted, measured-as}
@@ -37,21 +37,23 @@ number-of-requires c κs = search needs
 
 returns-2 : tie.Need-returns-2
 returns-2 c =
-    let args = c .before .before .before .before .before .before .before .args in
+    let args = c .before .before .before .before .before .before .before .before .args in
     let call = measureCall (args .board) (args .number) (now (args .value)) in
-    let right = passed _ (c .before .before .before .before .before .check-record .ensures) (c .before .before .before .enum-told .given .1) in
+    let right = passed _ (c .before .before .before .before .before .before .check-record .ensures) (c .before .before .before .before .enum-told .given .1) in
     measured-as call (measure-refused call right (c .before .before .measure .ensures .answered) (c .before .match2 .keys2)) (ap Refused (c .number-of .ensures)) refl
 
-with-store-requires : tie.Need-with-store-requires
-with-store-requires c κs = search needs
+with-parameters-requires : tie.Need-with-parameters-requires
+with-parameters-requires c κs = search needs
 
 returns-3 : tie.Need-returns-3
 returns-3 c =
-    let args = c .before .before .before .before .before .before .before .before .before .args in
+    let args = c .before .before .before .before .before .before .before .before .before .before .before .args in
     let call = measureCall (args .board) (args .number) (now (args .value)) in
-    let right = passed _ (c .before .before .before .before .before .before .before .check-record .ensures) (c .before .before .before .before .before .enum-told .given .1) in
-    measured-as call (measure-accepted call right (c .before .before .before .before .measure .ensures .answered) (c .before .before .enum-told3 .given .1)) refl
-    (c .with-store .ensures ∙ ap (withStore (args .board)) (c .before .before .before .before .measure .ensures .held))
+    let right = passed _ (c .before .before .before .before .before .before .before .before .before .check-record .ensures) (c .before .before .before .before .before .before .before .enum-told .given .1) in
+    let measured = c .before .before .before .before .before .measure .ensures in
+    measured-as call (measure-accepted call right (measured .answered) (c .before .before .before .enum-told3 .given .1)) refl
+    (c .with-parameters .ensures
+    ∙ ap (λ (store : Store). withParameters (args .board) (parametersOf store (args .board .parameters .schedule))) (measured .held))
 
 pub measure-spec : {M : Type 1} → statement M
 measure-spec =
@@ -65,5 +67,5 @@ measure-spec =
     enum-told-3
     number-of-requires
     returns-2
-    with-store-requires
+    with-parameters-requires
     returns-3)

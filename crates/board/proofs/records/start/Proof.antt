@@ -6,7 +6,9 @@ use mathlib.Core.Bool.{Bool, cond}
 use mathlib.Core.List.{List, []}
 use Prim.Native.Nat.{ℕ}
 use lib.ListN.{length}
-use Rattle.store.specs.Start.{start as startStore}
+use Rattle.store.specs.Start.{start as startRows}
+use Rattle.schedule.specs.Entries.{start as startEntries}
+use Rattle.model.specs.Record.{parametersOf}
 use Rattle.board.specs.Answering.{laid}
 use Rattle.model.specs.declared.Board.{Board}
 use borrow.Author.Needs.{needs}
@@ -19,8 +21,8 @@ in-sixteen-requires c κs = search needs
 in-eight-requires : tie.Need-in-eight-requires
 in-eight-requires c κs = search needs
 
-start-requires : tie.Need-start-requires
-start-requires c κs = search needs
+start-parameters-requires : tie.Need-start-parameters-requires
+start-parameters-requires c κs = search needs
 
 returns : tie.Need-returns
 returns c =
@@ -30,14 +32,16 @@ returns c =
       password = c .before .before .in-eight .ensures i;
       size = ap (λ (short : Bool). length (cond short (now (args .password)) [])) (sym (lt-leb _ _ (c .before .if1 .taken))) i;
       mode = args .mode;
-      store = (c .start .ensures ∙ ap startStore (c .before .before .before .in-sixteen .ensures)) i;
+      parameters =
+          (c .start-parameters .ensures
+          ∙ ap (λ (id : List ℕ). parametersOf (startRows id) startEntries) (c .before .before .before .in-sixteen .ensures)) i;
     }
 
 cast-t9 : tie.Need-cast-t9
 cast-t9 c = search needs
 
-start-requires-2 : tie.Need-start-requires-2
-start-requires-2 c κs = search needs
+start-parameters-requires-2 : tie.Need-start-parameters-requires-2
+start-parameters-requires-2 c κs = search needs
 
 returns-2 : tie.Need-returns-2
 returns-2 c =
@@ -47,7 +51,9 @@ returns-2 c =
       password = c .before .before .in-eight .ensures i;
       size = ap (λ (short : Bool). length (cond short (now (args .password)) [])) (sym (le-leb _ _ (c .before .if1 .left))) i;
       mode = args .mode;
-      store = (c .start2 .ensures ∙ ap startStore (c .before .before .before .in-sixteen .ensures)) i;
+      parameters =
+          (c .start-parameters2 .ensures
+          ∙ ap (λ (id : List ℕ). parametersOf (startRows id) startEntries) (c .before .before .before .in-sixteen .ensures)) i;
     }
 
 pub start-spec : {M : Type 1} → statement M
@@ -56,8 +62,8 @@ start-spec =
     (tie.spec
     in-sixteen-requires
     in-eight-requires
-    start-requires
+    start-parameters-requires
     returns
     cast-t9
-    start-requires-2
+    start-parameters-requires-2
     returns-2)

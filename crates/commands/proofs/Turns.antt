@@ -1,0 +1,114 @@
+-- A turn of the loop that runs the commands of a block.
+use Prim.Native.Nat.{ℕ, _+_, _≤_}
+use native.Mathlib.Nat.{add-zero}
+use native.Mathlib.Omega.{arith}
+use mathlib.Core.Bool.{Bool, true, false, cond}
+use mathlib.Core.List.{List, [], _∷_, _++_, append-nil}
+use mathlib.Core.Option.{Option, none, some, Option·map}
+use mathlib.Core.Path.{_≡_, refl, sym, ap, _∙_}
+use borrow.Author.Tests.{le-leb, leb-true}
+use lib.ListN.{length, take, drop, take-append-drop}
+use Rattle.octets.specs.Octets.{overwrite, fits}
+use Rattle.octets.proofs.Booleans.{both-true}
+use Rattle.octets.proofs.Overwriting.{length-overwrite}
+use Rattle.block.specs.Command.{Command, Report}
+use Rattle.block.specs.Encoding.{encodeReports, lastPage, encodableReport, every}
+use Rattle.model.specs.Commands.{afterCommand, run}
+use Rattle.model.specs.declared.Parameters.{Parameters}
+use Rattle.commands.specs.declared.Ran.{Ran}
+use Rattle.commands.specs.declared.Scope.{Scope}
+use Rattle.commands.specs.declared.draft.Draft.{Draft}
+use Rattle.commands.specs.declared.draft.Room.{Room}
+use Rattle.commands.specs.declared.draft.Room.the-variants.{Left, Over}
+use Rattle.commands.specs.Draft.{draftOf, taken, extended, exceeded, drafted, reportedIn, runReportsIn, ranOf, ranCommand, ranBehind}
+use Rattle.commands.proofs.Drafts.{taken-join, extended-join, over-join}
+
+-- a draft that reports can be put behind
+pub record Settled (draft : Draft) : Type 0 where
+  pub left : draft .room ≡ Left
+  pub inside : draft .length ≤ length (draft .bytes)
+
+module _ (draft : Draft) (settled : Settled draft) where
+  taken-none : taken draft [] ≡ true
+  unfolding every encodeReports
+  taken-none =
+      let room : draft .length + 0 ≤ length (draft .bytes) = omega (arith, settled .inside) in
+      le-leb _ _ room
+
+  extended-none : extended draft [] ≡ draft
+  unfolding encodeReports lastPage
+  extended-none =
+      λ i. draftOf
+      ((ap (λ (n : ℕ). take (draft .length) (draft .bytes) ++ [] ++ drop n (draft .bytes)) (add-zero (draft .length))
+      ∙ ap (λ (front : List ℕ). front ++ drop (draft .length) (draft .bytes)) (append-nil (take (draft .length) (draft .bytes)))
+      ∙ take-append-drop (draft .length) (draft .bytes)) i)
+      (add-zero (draft .length) i) (draft .page) (sym (settled .left) i)
+
+  -- `drafted` without its own case for no reports
+  drafted-as : (reports : List Report) → drafted draft reports ≡ cond (taken draft reports) (extended draft reports) (exceeded draft)
+  drafted-as [] = sym (rw (taken-none, extended-none))
+  drafted-as (first ∷ rest) = refl
+
+  -- the block ends
+  pub ran-none : (stopped : Ran) (scope : Scope) (p : Parameters) → ranBehind stopped scope p draft (some []) ≡ ranOf p draft
+  unfolding runReportsIn run
+  ran-none stopped scope p = rw (taken-none, extended-none)
+
+taken-by : (draft : Draft) (reports : List Report) (yes : Bool) {after : Draft} → after ≡ cond yes (extended draft reports) (exceeded draft) → after .room ≡ Left → yes ≡ true
+taken-by draft reports true e h = refl
+taken-by draft reports false e h = cc
+
+over-by : (draft : Draft) (reports : List Report) (yes : Bool) {after : Draft} → after ≡ cond yes (extended draft reports) (exceeded draft) → after .room ≡ Over → yes ≡ false
+over-by draft reports true e h = cc
+over-by draft reports false e h = refl
+
+-- a command is run behind a draft, and others are left
+module _ (stopped : Ran) (scope : Scope) (p : Parameters) (draft : Draft) (settled : Settled draft) (c : Command) {after : Ran} (one : after ≡ ranCommand scope p draft c) where
+  said : List Report
+  said = reportedIn scope (afterCommand p c) c
+
+  after-draft : after .draft ≡ cond (taken draft said) (extended draft said) (exceeded draft)
+  unfolding said
+  after-draft = ap (λ (ran : Ran). ran .draft) one ∙ drafted-as draft settled said
+
+  all-taken : after .draft .room ≡ Left → taken draft said ≡ true
+  all-taken h = taken-by draft said (taken draft said) after-draft h
+
+  kept : after .draft .room ≡ Left → after ≡ ranOf (afterCommand p c) (extended draft said)
+  unfolding said
+  kept h = λ i. ranOf (one i .parameters) ((after-draft ∙ ap (λ (yes : Bool). cond yes (extended draft said) (exceeded draft)) (all-taken h)) i)
+
+  pub settled-again : after .draft .room ≡ Left → Settled (after .draft)
+  unfolding said
+  settled-again h =
+      let room : draft .length + length (encodeReports (draft .page) said) ≤ length (draft .bytes) =
+      leb-true _ _ (both-true (every encodableReport said) _ (all-taken h) .1) in
+      record {
+        left = h;
+        inside = rw (kept h) (omega (arith, length-overwrite (draft .bytes) (draft .length) (encodeReports (draft .page) said) room));
+      }
+
+  -- the rest from here gives what the whole gives
+  turned : (rest : Option (List Command)) → taken draft said ≡ true
+      → ranBehind stopped scope p draft (Option·map (λ (cs : List Command). c ∷ cs) rest) ≡ ranBehind stopped scope (afterCommand p c) (extended draft said) rest
+  unfolding said runReportsIn run
+  turned none h = refl
+  turned (some cs) h =
+      rw (
+        taken-join draft said (runReportsIn scope (afterCommand p c) cs) h,
+        extended-join draft said (runReportsIn scope (afterCommand p c) cs) h,
+      )
+
+  pub turn-left : (rest : Option (List Command)) → after .draft .room ≡ Left
+      → ranBehind stopped scope p draft (Option·map (λ (cs : List Command). c ∷ cs) rest) ≡ ranBehind stopped scope (after .parameters) (after .draft) rest
+  turn-left rest h =
+      turned rest (all-taken h)
+      ∙ ap (λ (ran : Ran). ranBehind stopped scope (ran .parameters) (ran .draft) rest) (sym (kept h))
+
+  -- reports without room stop it
+  pub turn-over : (rest : Option (List Command)) → after .draft .room ≡ Over
+      → ranBehind stopped scope p draft (Option·map (λ (cs : List Command). c ∷ cs) rest) ≡ stopped
+  unfolding said runReportsIn run
+  turn-over none h = refl
+  turn-over (some cs) h =
+      rw (over-join draft said (runReportsIn scope (afterCommand p c) cs) (over-by draft said (taken draft said) after-draft h))

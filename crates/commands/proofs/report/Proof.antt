@@ -1,0 +1,56 @@
+-- `commands::report` meets its contract.
+use mathlib.Core.Path.{_≡_, _∙_}
+use borrow.Author.Tests.{not-true, not-false}
+use denote.Ref.{now}
+use Rattle.block.specs.Command.{commandOf}
+use Rattle.commands.proofs.Running.{passed-over, report-of-entry, report-of-row}
+use borrow.Author.Needs.{needs}
+use Rattle.commands.proofs.report.Statement.{statement}
+use Rattle.commands.proofs.report.Tie as tie
+
+number-of-requires : tie.Need-number-of-requires
+number-of-requires c κs = search needs
+
+is-selected-requires : tie.Need-is-selected-requires
+is-selected-requires c κs = search needs
+
+returns : tie.Need-returns
+returns c =
+    let args = c .before .before .before .before .args in
+    let command = commandOf (args .function) (args .page) (args .low) (now (args .value)) in
+    passed-over (args .scope) (args .parameters) (args .draft) command (c .before .before .number-of .ensures) (c .before .is-selected .ensures)
+    (not-true _ (c .if1 .taken))
+
+report-entry-requires : tie.Need-report-entry-requires
+report-entry-requires c κs = search needs
+
+returns-2 : tie.Need-returns-2
+returns-2 c =
+    let args = c .before .before .before .before .before .before .args in
+    let command = commandOf (args .function) (args .page) (args .low) (now (args .value)) in
+    c .report-entry .ensures
+    ∙ report-of-entry (args .scope) (args .parameters) (args .draft) command (c .before .before .before .before .number-of .ensures)
+    (c .before .before .before .is-selected .ensures) (not-false _ (c .before .before .if1 .left)) (c .before .if2 .taken)
+
+report-row-requires : tie.Need-report-row-requires
+report-row-requires c κs = search needs
+
+returns-3 : tie.Need-returns-3
+returns-3 c =
+    let args = c .before .before .before .before .before .before .args in
+    let command = commandOf (args .function) (args .page) (args .low) (now (args .value)) in
+    c .report-row .ensures
+    ∙ report-of-row (args .scope) (args .parameters) (args .draft) command (c .before .before .before .before .number-of .ensures)
+    (c .before .before .before .is-selected .ensures) (not-false _ (c .before .before .if1 .left)) (c .before .if2 .left)
+
+pub report-spec : {M : Type 1} → statement M
+report-spec =
+    tie.close
+    (tie.spec
+    number-of-requires
+    is-selected-requires
+    returns
+    report-entry-requires
+    returns-2
+    report-row-requires
+    returns-3)

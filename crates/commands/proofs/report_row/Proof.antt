@@ -1,0 +1,79 @@
+-- `commands::report_row` meets its contract.
+use Prim.Native.Nat.{ℕ}
+use mathlib.Core.List.{List, [], _∷_}
+use mathlib.Core.Path.{_≡_, sym, ap, _∙_}
+use denote.Ref.{now}
+use Rattle.block.specs.Command.{commandOf, held}
+use Rattle.store.specs.Layout.{valueIn}
+use Rattle.store.specs.Operations.{answer}
+use Rattle.store.specs.declared.Answer.{Answer}
+use Rattle.model.specs.Commands.{rowReport}
+use Rattle.commands.specs.Draft.{drafted}
+use borrow.Author.Needs.{needs}
+use Rattle.commands.proofs.report_row.Statement.{statement}
+use Rattle.commands.proofs.report_row.Tie as tie
+
+number-of-requires : tie.Need-number-of-requires
+number-of-requires c κs = search needs
+
+answered-with-requires : tie.Need-answered-with-requires
+answered-with-requires c κs = search needs
+
+enum-told : tie.Need-enum-told
+enum-told c = search needs
+
+enum-told-2 : tie.Need-enum-told-2
+enum-told-2 c = search needs
+
+with-unknown-requires : tie.Need-with-unknown-requires
+with-unknown-requires c κs = search needs
+
+enum-told-3 : tie.Need-enum-told-3
+enum-told-3 c = search needs
+
+held-requires : tie.Need-held-requires
+held-requires c κs = search needs
+
+with-value-requires : tie.Need-with-value-requires
+with-value-requires c κs = search needs
+
+returns : tie.Need-returns
+returns c =
+    let args = c .before .before .before .before .before .args in
+    ap (λ (kind : Answer). drafted (args .draft) (rowReport kind (args .t1) (commandOf (args .function) (args .page) (args .low) (now (args .value)))))
+    (sym (c .enum-told .given .1) ∙ c .before .before .answered-with .ensures
+    ∙ ap (λ (n : ℕ). answer (args .function) n (now (args .value))) (c .before .before .before .number-of .ensures))
+
+returns-2 : tie.Need-returns-2
+returns-2 c =
+    let args = c .before .before .before .before .before .before .args in
+    c .with-unknown .ensures
+    ∙ ap (λ (kind : Answer). drafted (args .draft) (rowReport kind (args .t1) (commandOf (args .function) (args .page) (args .low) (now (args .value)))))
+    (sym (c .before .enum-told2 .given .1) ∙ c .before .before .before .answered-with .ensures
+    ∙ ap (λ (n : ℕ). answer (args .function) n (now (args .value))) (c .before .before .before .before .number-of .ensures))
+
+returns-3 : tie.Need-returns-3
+returns-3 c =
+    let args = c .before .before .before .before .before .before .before .before .before .before .args in
+    let named = c .before .before .before .before .before .before .before .before .number-of .ensures in
+    c .with-value .ensures
+    ∙ ap (λ (value : List ℕ). drafted (args .draft) (held (args .page) (args .low) value ∷ [])) (c .before .held .ensures ∙ ap (valueIn (args .t1 .bytes)) named)
+    ∙ ap (λ (kind : Answer). drafted (args .draft) (rowReport kind (args .t1) (commandOf (args .function) (args .page) (args .low) (now (args .value)))))
+    (sym (c .before .before .before .before .before .enum-told3 .given .1) ∙ c .before .before .before .before .before .before .before .answered-with .ensures
+    ∙ ap (λ (n : ℕ). answer (args .function) n (now (args .value))) named)
+
+pub report-row-spec : {M : Type 1} → statement M
+report-row-spec =
+    tie.close
+    (tie.spec
+    number-of-requires
+    answered-with-requires
+    enum-told
+    enum-told-2
+    with-unknown-requires
+    enum-told-3
+    held-requires
+    with-value-requires
+    returns
+    returns-2
+    returns-3)

@@ -1,0 +1,76 @@
+-- The data block of a response while the code writes it.
+use Prim.Native.Nat.{ℕ, _+_}
+use mathlib.Core.Bool.{Bool, true, cond, _&&_}
+use mathlib.Core.List.{List, [], _∷_, _++_}
+use mathlib.Core.Option.{Option, none, some}
+use lib.ListN.{length, replicate}
+use Rattle.octets.specs.Octets.{overwrite, fits}
+use Rattle.block.specs.Command.{Command, commandNumber, Report}
+use Rattle.block.specs.Encoding.{encodeReports, lastPage, encodableReport, every}
+use Rattle.block.specs.Request.{commands}
+use Rattle.store.specs.Rows.{isIdentity}
+use Rattle.model.specs.Commands.{afterCommand, reported, run}
+use Rattle.model.specs.declared.Parameters.{Parameters}
+use Rattle.commands.specs.declared.draft.Draft.{Draft}
+use Rattle.commands.specs.declared.draft.Room.{Room}
+use Rattle.commands.specs.declared.draft.Room.the-variants.{Left, Over}
+use Rattle.commands.specs.declared.Ran.{Ran}
+use Rattle.commands.specs.declared.Scope.{Scope}
+use Rattle.commands.specs.declared.Scope.the-variants.{All, Identity}
+
+abbrev pub draftOf : List ℕ → ℕ → ℕ → Room → Draft
+draftOf bytes length page room = record { bytes = bytes; length = length; page = page; room = room }
+
+-- whether reports have a form each, and fit behind what is written
+abbrev pub taken : Draft → List Report → Bool
+taken draft reports = every encodableReport reports && fits (draft .bytes) (draft .length) (encodeReports (draft .page) reports)
+
+-- the reports behind what is written
+abbrev pub extended : Draft → List Report → Draft
+extended draft reports =
+    draftOf (overwrite (draft .bytes) (draft .length) (encodeReports (draft .page) reports))
+    (draft .length + length (encodeReports (draft .page) reports))
+    (lastPage (draft .page) reports)
+    Left
+
+abbrev pub exceeded : Draft → Draft
+exceeded draft = draftOf (draft .bytes) (draft .length) (draft .page) Over
+
+-- no reports leave a draft as it is
+abbrev pub drafted : Draft → List Report → Draft
+drafted draft [] = draft
+drafted draft (first ∷ rest) = cond (taken draft (first ∷ rest)) (extended draft (first ∷ rest)) (exceeded draft)
+
+-- nothing written
+abbrev pub blank : Draft
+blank = draftOf (replicate 232 0) 0 0 Left
+
+-- what a command reports: in a discovery only the rows of the identity
+abbrev pub selected : Scope → ℕ → Bool
+selected All number = true
+selected Identity number = isIdentity number
+
+abbrev pub reportedIn : Scope → Parameters → Command → List Report
+reportedIn scope parameters c = cond (selected scope (commandNumber c)) (reported parameters c) []
+
+unfoldable pub runReportsIn : Scope → Parameters → List Command → List Report
+runReportsIn scope parameters [] = []
+runReportsIn scope parameters (c ∷ cs) =
+    reportedIn scope (afterCommand parameters c) c ++ runReportsIn scope (afterCommand parameters c) cs
+
+abbrev pub ranOf : Parameters → Draft → Ran
+ranOf parameters draft = record { parameters = parameters; draft = draft }
+
+-- one command
+abbrev pub ranCommand : Scope → Parameters → Draft → Command → Ran
+ranCommand scope parameters draft c = ranOf (afterCommand parameters c) (drafted draft (reportedIn scope (afterCommand parameters c) c))
+
+-- commands behind what is written; where there are none to run, or their reports are not taken, `stopped`
+abbrev pub ranBehind : Ran → Scope → Parameters → Draft → Option (List Command) → Ran
+ranBehind stopped scope parameters draft none = stopped
+ranBehind stopped scope parameters draft (some cs) =
+    cond (taken draft (runReportsIn scope parameters cs)) (ranOf (run parameters cs) (extended draft (runReportsIn scope parameters cs))) stopped
+
+-- all commands of a data block; a block that cannot be answered leaves the parameters as they were
+abbrev pub ranBlock : Scope → Parameters → ℕ → List ℕ → Ran
+ranBlock scope parameters function block = ranBehind (ranOf parameters (exceeded blank)) scope parameters blank (commands function block)

@@ -1,0 +1,207 @@
+// Runs the commands of a data block on a board's parameters.
+pub mod draft;
+
+use block::request::NextCommand;
+use draft::Draft;
+use draft::Room;
+use model::Parameters;
+use schedule::Schedule;
+use store::Store;
+ghost use mathlib.Core.Path.{_≡_};
+ghost use Rattle.block.specs.Command.{commandOf, parameterNumber};
+ghost use Rattle.store.specs.Operations.{answer};
+ghost use Rattle.schedule.specs.Operations.{answered};
+ghost use Rattle.model.specs.Commands.{afterRow, afterEntry, afterCommand, rowReport, entryReport};
+ghost use Rattle.commands.specs.Draft.{blank, drafted, exceeded, ranBlock, ranCommand, ranOf, reportedIn, selected};
+
+// Which parameters are reported: in a discovery only the ID and the unit type.
+pub enum Scope {
+    All,
+    Identity,
+}
+
+pub struct Ran {
+    pub parameters: Parameters,
+    pub draft: Draft,
+}
+
+// The weekly schedule; every other number is a row's or unknown.
+const SCHEDULE: u16 = 0x0077;
+
+fn number_of(page: u8, low: u8) -> u16
+    ensures { λ r. ⌜ r ≡ parameterNumber page low ⌝ }
+{
+    (page as u16) * 256 + (low as u16)
+}
+
+// What a command makes of the rows.
+fn change_row(store: Store, function: u8, page: u8, low: u8, value: &[u8]) -> Store
+    ensures { λ r. ⌜ r ≡ afterRow store (commandOf function page low (now (value .entry))) ⌝ }
+{
+    match function {
+        2 | 3 => store::write(store, number_of(page, low), value),
+        4 => store::raise(store, number_of(page, low)),
+        5 => store::lower(store, number_of(page, low)),
+        _ => store,
+    }
+}
+
+// What a command makes of the schedule.
+fn change_entry(schedule: Schedule, function: u8, page: u8, low: u8, value: &[u8]) -> Schedule
+    ensures { λ r. ⌜ r ≡ afterEntry schedule (commandOf function page low (now (value .entry))) ⌝ }
+{
+    match function {
+        2 | 3 => schedule::write(schedule, value),
+        _ => schedule,
+    }
+}
+
+// What a command makes of the parameters.
+fn change(parameters: Parameters, function: u8, page: u8, low: u8, value: &[u8]) -> Parameters
+    ensures { λ r. ⌜ r ≡ afterCommand parameters (commandOf function page low (now (value .entry))) ⌝ }
+{
+    let store = parameters.store;
+    let schedule = parameters.schedule;
+    if number_of(page, low) == SCHEDULE {
+        return Parameters {
+            store,
+            schedule: change_entry(schedule, function, page, low, value),
+        };
+    }
+    Parameters {
+        store: change_row(store, function, page, low, value),
+        schedule,
+    }
+}
+
+fn is_selected(scope: Scope, number: u16) -> bool
+    ensures { λ r. ⌜ r ≡ selected scope number ⌝ }
+{
+    match scope {
+        Scope::All => true,
+        Scope::Identity => match number {
+            0x007C | 0x00B9 => true,
+            _ => false,
+        },
+    }
+}
+
+// What a command of a row reports, behind what is written.
+fn report_row(store: Store, draft: Draft, function: u8, page: u8, low: u8, value: &[u8]) -> Draft
+    ensures { λ r. ⌜ r ≡ drafted draft (rowReport (answer function (parameterNumber page low) (now (value .entry))) store (commandOf function page low (now (value .entry)))) ⌝ }
+{
+    let number = number_of(page, low);
+    match store::answered_with(function, number, value) {
+        store::Answer::Silence => draft,
+        store::Answer::Unknown => draft::with_unknown(draft, page, low),
+        store::Answer::Value => {
+            draft::with_value(draft, page, low, store::held(&store.bytes, number))
+        }
+    }
+}
+
+// What a command of the schedule reports, behind what is written.
+fn report_entry(
+    schedule: Schedule,
+    draft: Draft,
+    function: u8,
+    page: u8,
+    low: u8,
+    value: &[u8],
+) -> Draft
+    ensures { λ r. ⌜ r ≡ drafted draft (entryReport (answered function (now (value .entry))) schedule (commandOf function page low (now (value .entry)))) ⌝ }
+{
+    match schedule::answered_with(function, value) {
+        schedule::Answer::Silence => draft,
+        schedule::Answer::Unknown => draft::with_unknown(draft, page, low),
+        schedule::Answer::Entry { day, period } => {
+            let entry = schedule::report(schedule, day, period);
+            draft::with_value(draft, page, low, &entry)
+        }
+    }
+}
+
+// What a command reports of the parameters just after it, behind what is written.
+fn report(
+    scope: Scope,
+    parameters: Parameters,
+    draft: Draft,
+    function: u8,
+    page: u8,
+    low: u8,
+    value: &[u8],
+) -> Draft
+    ensures { λ r. ⌜ r ≡ drafted draft (reportedIn scope parameters (commandOf function page low (now (value .entry)))) ⌝ }
+{
+    let number = number_of(page, low);
+    if !is_selected(scope, number) {
+        return draft;
+    }
+    if number == SCHEDULE {
+        return report_entry(parameters.schedule, draft, function, page, low, value);
+    }
+    report_row(parameters.store, draft, function, page, low, value)
+}
+
+fn run_one(scope: Scope, ran: Ran, function: u8, page: u8, low: u8, value: &[u8]) -> Ran
+    ensures { λ r. ⌜ r ≡ ranCommand scope (ran .parameters) (ran .draft) (commandOf function page low (now (value .entry))) ⌝ }
+{
+    let parameters = change(ran.parameters, function, page, low, value);
+    let draft = report(scope, parameters, ran.draft, function, page, low, value);
+    Ran { parameters, draft }
+}
+
+// Parameters whose commands are not run.
+fn stopped(parameters: Parameters) -> Ran
+    ensures { λ r. ⌜ r ≡ ranOf parameters (exceeded blank) ⌝ }
+{
+    let draft = Draft {
+        bytes: [0u8; 232],
+        length: 0,
+        page: 0,
+        room: Room::Over,
+    };
+    Ran { parameters, draft }
+}
+
+// The commands of a block in order. Where their reports have no room, or the block is malformed, nothing has happened.
+pub fn run(scope: Scope, parameters: Parameters, function: u8, bytes: &[u8]) -> Ran
+    ensures { λ r. ⌜ r ≡ ranBlock scope parameters function (now (bytes .entry)) ⌝ }
+{
+    let mut rest = bytes;
+    let mut page: u8 = 0;
+    let mut in_force = function;
+    let draft = draft::blank();
+    let mut ran = Ran { parameters, draft };
+    loop {
+        match block::request::next_command(rest, page, in_force) {
+            NextCommand::End => return ran,
+            NextCommand::Malformed => return stopped(parameters),
+            NextCommand::Command {
+                function: called,
+                page: turned,
+                low,
+                value,
+                rest: behind,
+            } => {
+                ran = run_one(
+                    scope,
+                    ran,
+                    called,
+                    turned,
+                    low,
+                    block::part(rest, value, behind),
+                );
+                let written = ran.draft;
+                let room = written.room;
+                let Room::Left = room else {
+                    return stopped(parameters);
+                };
+                let left = block::part(rest, behind, 0);
+                rest = left;
+                page = turned;
+                in_force = called;
+            }
+        }
+    }
+}
