@@ -14,6 +14,7 @@ use Rattle.store.specs.Rows.{rows, indexIn}
 use Rattle.store.specs.Sets.{printable, firstAfter, firstBefore}
 use Rattle.store.specs.Sound.{soundRows}
 use Rattle.store.specs.Start.{lowest, startValue, startRooms, start}
+use Rattle.schedule.specs.Entries.{allLegal}
 use Rattle.model.specs.Commands.{afterCommand, reported, run, runReports, discovered, discoverReports}
 use Rattle.model.specs.Measurement.{measureRefusals, measureRefusal, measuredBoard}
 use Rattle.model.specs.Record.{setUpRefusals, setUpRefusal, setUpBoard, sound}
@@ -26,5 +27,5 @@ use Rattle.claims.specs.Examples.{happened}
 use Rattle.claims.specs.Table.{examples, ExamplesHold}
 
 pub examples-hold : ExamplesHold
-unfolding same sum checksum defaultId allAlphanumeric packetRefusals packetRefusal firstRefusal encodeCommand encodeCommandsFrom encodeReport encodeReports every whole request.items response.items placesFrom rows indexIn printable firstAfter firstBefore soundRows lowest startValue startRooms start afterCommand reported run runReports discovered discoverReports measureRefusals measureRefusal measuredBoard setUpRefusals setUpRefusal setUpBoard sound requestRefusals stepRefusals stepRefusal step commandList hexBytes reportLine reportLines writeRefusals writeRefusal responseRefusals anyResponseRefusals anyResponseRefusal happened examples
+unfolding same sum checksum defaultId allAlphanumeric packetRefusals packetRefusal firstRefusal encodeCommand encodeCommandsFrom encodeReport encodeReports every whole request.items response.items placesFrom rows indexIn printable firstAfter firstBefore soundRows lowest startValue startRooms start afterCommand reported run runReports discovered discoverReports measureRefusals measureRefusal measuredBoard setUpRefusals setUpRefusal setUpBoard sound requestRefusals stepRefusals stepRefusal step commandList hexBytes reportLine reportLines writeRefusals writeRefusal responseRefusals anyResponseRefusals anyResponseRefusal happened examples allLegal
 examples-hold = refl

@@ -12,7 +12,7 @@ use Rattle.framing.specs.Identity.{defaultId, isPassword}
 use Rattle.framing.specs.Packet.{packetRefusal, placesOf}
 use Rattle.block.specs.Command.{isRead}
 use Rattle.block.specs.Encoding.{firstFunction, every}
-use Rattle.store.specs.Laws.{Sized}
+use Rattle.model.specs.Changes.{Sized}
 use Rattle.model.specs.Record.{client, accessPoint, passwordOf, sound}
 use Rattle.model.specs.Refusals.{Silent, Responds}
 use Rattle.model.specs.Step.{Request, Call, call, requestOf, request, isDiscovery, decoded, reportsOf, response, Steps}
@@ -60,7 +60,7 @@ pub record ResponseRead (r : Request) (packet : List ℕ) : Type 0 where
 -- whatever the board responds; a discovery (search) alone may bear a password that the tool would not send
 abbrev pub ResponsesAgree : Type 0
 ResponsesAgree =
-    (c : Call) (result : Stepped) (after : List ℕ) (size : ℕ) → Sized (c .board .store) → Steps c result after → result .answer ≡ Response size
+    (c : Call) (result : Stepped) (after : List ℕ) (size : ℕ) → Sized (c .board .parameters) → Steps c result after → result .answer ≡ Response size
     → (isDiscovery (request c) ≡ true → isPassword (request c .frame .password) ≡ true)
     → ResponseRead (request c) (take size after)
 
@@ -68,6 +68,6 @@ ResponsesAgree =
 abbrev pub ExchangesAgree : Type 0
 ExchangesAgree =
     (given : WriteCall) (answer : Written) (written : List ℕ) (size : ℕ) → Writes given answer written → answer ≡ Length size
-    → (board : Board) (buffer : List ℕ) (result : Stepped) (after : List ℕ) (back : ℕ) → Sized (board .store)
+    → (board : Board) (buffer : List ℕ) (result : Stepped) (after : List ℕ) (back : ℕ) → Sized (board .parameters)
     → Steps (call board (take size written) buffer) result after → result .answer ≡ Response back
     → ResponseRead (requestOf board (tool.requestOf given)) (take back after)

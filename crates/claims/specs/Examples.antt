@@ -54,7 +54,7 @@ happened board (sent packet answer after ∷ events) =
     ∷ happened (step (call board packet untouched) .board) events
 happened board (measured number value verdict ∷ events) =
     measured number value (verdictOf (measureRefusal (measureCall board number value))) ∷ happened (measuredBoard (measureCall board number value)) events
-happened board (holds number value ∷ events) = holds number (valueOf (board .store) number) ∷ happened board events
+happened board (holds number value ∷ events) = holds number (valueOf (board .parameters .store) number) ∷ happened board events
 
 -- a line with what the definitions give in the place of what must come
 abbrev pub computed : Line → Line
