@@ -93,7 +93,7 @@ pub(crate) fn read_number(field: &[u8]) -> Number {
     let Decoded::Until(_) = hex::decode(field, &mut bytes, 0) else {
         return Number::Bad;
     };
-    Number::Value(joined(slices::byte_at(&bytes, 0), slices::byte_at(&bytes, 1)))
+    Number::Value(joined(octets::byte_at(&bytes, 0), octets::byte_at(&bytes, 1)))
 }
 
 // Puts the bytes of the next two fields one behind the other into `bytes`.

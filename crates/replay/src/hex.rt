@@ -40,7 +40,7 @@ fn byte_of(field: &[u8], index: usize) -> Byte {
     }
     let high = 2 * index;
     let low = high + 1;
-    pair(slices::byte_at(field, high), slices::byte_at(field, low))
+    pair(octets::byte_at(field, high), octets::byte_at(field, low))
 }
 
 fn put_byte(bytes: &mut [u8], at: usize, byte: u8) {

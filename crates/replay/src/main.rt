@@ -6,6 +6,7 @@ mod hex;
 mod lines;
 mod output;
 mod record_calls;
+mod schedule_entries;
 mod slices;
 mod tool_calls;
 

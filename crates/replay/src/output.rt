@@ -31,16 +31,37 @@ fn digit(value: u8) -> u8 {
     b'?'
 }
 
-pub(crate) fn put_hex(text: &mut [u8], at: usize, bytes: &[u8]) -> usize {
+// How a byte is written: as two hex digits, or as the character it is, a line's end as a vertical bar.
+enum Style {
+    Hex,
+    Joined,
+}
+
+fn put_byte(text: &mut [u8], at: usize, byte: u8, style: Style) -> usize {
+    match style {
+        Style::Hex => {
+            let pair = [digit(byte / 16), digit(byte % 16)];
+            put(text, at, &pair)
+        }
+        Style::Joined => {
+            let character = [joining(byte)];
+            put(text, at, &character)
+        }
+    }
+}
+
+fn put_each(text: &mut [u8], at: usize, bytes: &[u8], style: Style) -> usize {
     let mut end = at;
     let mut i: usize = 0;
     while i < bytes.len() {
-        let byte = bytes[i];
-        let pair = [digit(byte / 16), digit(byte % 16)];
-        end = put(text, end, &pair);
+        end = put_byte(text, end, bytes[i], style);
         i += 1;
     }
     end
+}
+
+pub(crate) fn put_hex(text: &mut [u8], at: usize, bytes: &[u8]) -> usize {
+    put_each(text, at, bytes, Style::Hex)
 }
 
 // Hex, or `-` for no bytes.
@@ -87,14 +108,15 @@ pub(crate) fn put_bad(text: &mut [u8], at: usize) -> usize {
 
 // The lines of a text, joined by vertical bars; its last byte, the last line's end, is left out.
 pub(crate) fn put_joined(text: &mut [u8], at: usize, lines: &[u8]) -> usize {
-    let mut end = at;
-    let mut i: usize = 1;
-    while i < lines.len() {
-        let character = [joining(lines[i - 1])];
-        end = put(text, end, &character);
-        i += 1;
+    if lines.len() == 0 {
+        return at;
     }
-    end
+    put_each(
+        text,
+        at,
+        slices::first(lines, lines.len() - 1),
+        Style::Joined,
+    )
 }
 
 fn joining(character: u8) -> u8 {

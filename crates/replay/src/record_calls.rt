@@ -7,13 +7,20 @@ use crate::hex;
 use crate::hex::Byte;
 use crate::hex::Decoded;
 use crate::output;
+use crate::schedule_entries;
+use crate::schedule_entries::Place;
 use crate::slices;
 use model::Board;
+use model::Parameters;
+use schedule::Schedule;
 use store::Found;
 use store::Store;
 
 // Above the number of every row.
 const NUMBERS: u16 = 0x0500;
+
+// What `record` shows behind the identity: the numbers, and then the 28 entries of the schedule.
+const ITEMS: u16 = 0x051C;
 
 fn put_row(text: &mut [u8], at: usize, number: u16, bytes: &[u8]) -> usize {
     let Found::At(_) = store::find(number) else {
@@ -24,12 +31,19 @@ fn put_row(text: &mut [u8], at: usize, number: u16, bytes: &[u8]) -> usize {
     output::put_held(text, at, page, low, store::held(bytes, number))
 }
 
-fn put_rows(text: &mut [u8], at: usize, bytes: &[u8]) -> usize {
+fn put_item(text: &mut [u8], at: usize, item: u16, bytes: &[u8], schedule: Schedule) -> usize {
+    if item < NUMBERS {
+        return put_row(text, at, item, bytes);
+    }
+    schedule_entries::put(text, at, schedule, item - NUMBERS)
+}
+
+fn put_items(text: &mut [u8], at: usize, bytes: &[u8], schedule: Schedule) -> usize {
     let mut end = at;
-    let mut number: u16 = 0;
-    while number < NUMBERS {
-        end = put_row(text, end, number, bytes);
-        number += 1;
+    let mut item: u16 = 0;
+    while item < ITEMS {
+        end = put_item(text, end, item, bytes, schedule);
+        item += 1;
     }
     end
 }
@@ -52,22 +66,23 @@ pub(crate) fn show(board: Board, left: &[u8], text: &mut [u8], at: usize) -> usi
         return output::put_bad(text, at);
     }
     let end = put_identity(text, at, board);
-    let store = board.store;
+    let parameters = board.parameters;
+    let store = parameters.store;
     let bytes = store.bytes;
-    put_rows(text, end, &bytes)
+    put_items(text, end, &bytes, parameters.schedule)
 }
 
 fn with_id(board: Board, value: &[u8]) -> Board {
     let mut id = [0u8; 16];
     octets::overwrite(&mut id, 0, slices::first(value, 16));
     let password = board.password;
-    let store = board.store;
+    let parameters = board.parameters;
     Board {
         id,
         password,
         size: board.size,
         mode: board.mode,
-        store,
+        parameters,
     }
 }
 
@@ -76,26 +91,38 @@ fn with_password(board: Board, value: &[u8]) -> Board {
     let kept = slices::first(value, 8);
     octets::overwrite(&mut password, 0, kept);
     let id = board.id;
-    let store = board.store;
+    let parameters = board.parameters;
     Board {
         id,
         password,
         size: slices::narrow(kept.len()),
         mode: board.mode,
-        store,
+        parameters,
     }
 }
 
 fn with_mode(board: Board, mode: u8) -> Board {
     let id = board.id;
     let password = board.password;
-    let store = board.store;
+    let parameters = board.parameters;
     Board {
         id,
         password,
         size: board.size,
         mode,
-        store,
+        parameters,
+    }
+}
+
+fn with_parameters(board: Board, parameters: Parameters) -> Board {
+    let id = board.id;
+    let password = board.password;
+    Board {
+        id,
+        password,
+        size: board.size,
+        mode: board.mode,
+        parameters,
     }
 }
 
@@ -142,18 +169,25 @@ fn with_row(board: Board, number: u16, value: &[u8]) -> Board {
         return board;
     }
     let place = octets::wide(held[0]);
-    let store = board.store;
+    let parameters = board.parameters;
+    let store = parameters.store;
     let mut bytes = store.bytes;
     write_room(&mut bytes, place, held.len(), value, is_text(number));
-    let id = board.id;
-    let password = board.password;
-    Board {
-        id,
-        password,
-        size: board.size,
-        mode: board.mode,
-        store: Store { bytes },
-    }
+    let schedule = parameters.schedule;
+    with_parameters(
+        board,
+        Parameters {
+            store: Store { bytes },
+            schedule,
+        },
+    )
+}
+
+fn with_entry(board: Board, index: usize, value: &[u8]) -> Board {
+    let parameters = board.parameters;
+    let store = parameters.store;
+    let schedule = schedule_entries::with(parameters.schedule, index, value);
+    with_parameters(board, Parameters { store, schedule })
 }
 
 fn poked(board: Board, text: &mut [u8], at: usize) -> Step {
@@ -171,13 +205,16 @@ fn poke_mode(step: Step, field: &[u8], text: &mut [u8]) -> Step {
     poked(with_mode(step.board, mode), text, step.at)
 }
 
-// poke id HEX, poke password HEX, poke NUMBER VALUE
+// poke id HEX, poke password HEX, poke 0077:D.P VALUE, poke NUMBER VALUE
 fn poke_bytes(step: Step, name: &[u8], value: &[u8], text: &mut [u8]) -> Step {
     if octets::equal(name, b"id") {
         return poked(with_id(step.board, value), text, step.at);
     }
     if octets::equal(name, b"password") {
         return poked(with_password(step.board, value), text, step.at);
+    }
+    if let Place::At(index) = schedule_entries::place_of(name) {
+        return poked(with_entry(step.board, index, value), text, step.at);
     }
     let Number::Value(number) = fields::read_number(name) else {
         return calls::bad(step, text);

@@ -33,14 +33,6 @@ pub(crate) fn first_numbers(numbers: &[u16], count: usize) -> &[u16] {
     &numbers[0..count]
 }
 
-// The byte at a place, or 0 past the end.
-pub(crate) fn byte_at(bytes: &[u8], at: usize) -> u8 {
-    if at < bytes.len() {
-        return bytes[at];
-    }
-    0
-}
-
 // The first place from `from` on that holds a byte, or the end.
 pub(crate) fn place_of(bytes: &[u8], from: usize, wanted: u8) -> usize
     ensures { λ r. ⌜ r ≤ length (now (bytes .entry)) ⌝ }

@@ -1,25 +1,25 @@
--- `replay::record_calls::put_rows` is safe.
+-- `replay::record_calls::put_items` is safe.
 use Prim.Native.Nat.{_-_}
 use mathlib.Core.Path.{_≡_}
 use lib.ListN.{length}
 use borrow.Author.Needs.{needs}
-use Rattle.replay.proofs.record_calls.put_rows.Statement.{statement}
-use Rattle.replay.proofs.record_calls.put_rows.Tie as tie
+use Rattle.replay.proofs.record_calls.put_items.Statement.{statement}
+use Rattle.replay.proofs.record_calls.put_items.Tie as tie
 
 abbrev Inv-loop : tie.InvT-loop
-Inv-loop text₀ at bytes end₀ number₀ text end number = length text ≡ length text₀
+Inv-loop text₀ at bytes schedule end₀ item₀ text end item = length text ≡ length text₀
 
 abbrev μ-loop : tie.MeasureT-loop
-μ-loop text₀ at bytes end₀ number₀ text end number = 0x0500 - number
+μ-loop text₀ at bytes schedule end₀ item₀ text end item = 0x051C - item
 
 loop-holds : tie.Need-loop-holds Inv-loop μ-loop
 loop-holds c = search needs
 
-put-row-requires : tie.Need-put-row-requires Inv-loop μ-loop
-put-row-requires c κs = search needs
+put-item-requires : tie.Need-put-item-requires Inv-loop μ-loop
+put-item-requires c κs = search needs
 
-add-number : tie.Need-add-number Inv-loop μ-loop
-add-number c = search needs
+add-item : tie.Need-add-item Inv-loop μ-loop
+add-item c = search needs
 
 loop-less : tie.Need-loop-less Inv-loop μ-loop
 loop-less c = search needs
@@ -33,15 +33,15 @@ same-length c = search needs
 returns : tie.Need-returns Inv-loop μ-loop
 returns c = search needs
 
-pub put-rows-spec : {M : Type 1} → statement M
-put-rows-spec =
+pub put-items-spec : {M : Type 1} → statement M
+put-items-spec =
     tie.close
     (tie.spec
     Inv-loop
     μ-loop
     loop-holds
-    put-row-requires
-    add-number
+    put-item-requires
+    add-item
     loop-less
     loop-again
     same-length
