@@ -173,7 +173,7 @@ fn put_reports(text: &mut [u8], at: usize, block: &[u8]) -> usize {
     let mut left = block;
     let mut page: u8 = 0;
     loop {
-        match block::response::next_report(left, page) {
+        match reports::next_report(left, page) {
             NextReport::End => return end,
             NextReport::Malformed => return end,
             NextReport::Held {

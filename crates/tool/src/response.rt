@@ -9,7 +9,7 @@ ghost use Rattle.framing.specs.Packet.{placesOf, frameOf};
 ghost use Rattle.tool.specs.Response.{readCall, responseOf, responseAs, responseRefusals, anyResponseOf, otherId, otherPassword, noResponse, malformedBlock, numberOf, Stands};
 
 pub enum Response {
-    // The data block stands from `block` to `end`; its reports are what `block::response::next_report` hands out, from page 0 on.
+    // The data block stands from `block` to `end`; its reports are what `reports::next_report` hands out, from page 0 on.
     Accepted { block: usize, end: usize },
     // The number of the refusal.
     Refused(u8),
@@ -39,7 +39,7 @@ fn check_function(function: u8) -> Check
 fn check_block(block: &[u8]) -> Check
     ensures { λ r. ⌜ r ≡ checked (malformedBlock (now (block .entry))) ⌝ }
 {
-    super::passed_if(block::response::well_formed(block))
+    super::passed_if(reports::well_formed(block))
 }
 
 // The number of a refused packet.
