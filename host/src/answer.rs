@@ -20,7 +20,7 @@ pub fn reported(commands: &[Command]) -> impl Iterator<Item = &Command> {
 pub fn check(commands: &[Command], reports: &[Report]) -> Result<(), String> {
     let (asked, came) = (reported(commands).count(), reports.len());
     if asked != came {
-        return Err(format!("has {came} reports, not {asked}"));
+        return Err(format!("has {came} report(s), not {asked}"));
     }
     let mut pairs = reported(commands).zip(reports);
     pairs.try_for_each(|(command, report)| check_one(command, report))

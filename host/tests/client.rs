@@ -236,7 +236,7 @@ fn requests_that_cannot_be_written_are_refused() {
 
 #[test]
 fn bad_arguments_are_one_line() {
-    let host = ["--host", "127.0.0.1:9", "--id", ID, "--password", PASSWORD];
+    let host = ["--host", NOBODY, "--id", ID, "--password", PASSWORD];
     let with = |command, more: &[&'static str]| run(&[&[command], &host[..], more].concat());
     for (output, reason) in [
         (run(&[]), "there is no command"),

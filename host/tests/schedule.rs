@@ -3,6 +3,7 @@
 mod common;
 
 use common::*;
+use std::thread;
 
 const START: &str = "standby  ventilation only  until 00:00";
 const EVENING: &str = "speed 2  21 degrees        until 22:30";
@@ -137,7 +138,7 @@ fn a_response_is_kept_and_packets_are_dumped() {
 /// Nothing is sent: nobody is there to answer.
 #[test]
 fn bad_arguments_are_told_before_anything_is_sent() {
-    let asked = |more: &[&str]| ask("127.0.0.1:9", (ID, PASSWORD), "schedule", more);
+    let asked = |more: &[&str]| asked(NOBODY, "schedule", more);
     for (more, reason) in [
         (&[][..], "schedule takes get or set"),
         (&["raise", "monday", "1"], "schedule takes get or set"),
@@ -239,9 +240,9 @@ fn an_entry_that_is_unknown_is_told() {
 /// Each is ignored, and told where no answer comes.
 #[test]
 fn reports_that_are_no_answer() {
-    let get = ["get", "-t", "0.3", "-r", "0", "saturday", "4"];
-    let set = ["set", "-t", "0.3", "sat", "4", "3", "21", "08:30"];
-    for (data, reason) in [
+    let get = ["get", "-t", "0.6", "-r", "0", "saturday", "4"];
+    let set = ["set", "-t", "0.6", "sat", "4", "3", "21", "08:30"];
+    let others = [
         (
             &[0xFE, 6, 0x77, 5, 4, 3, 21, 30, 8][..],
             "reports another entry of the schedule",
@@ -258,13 +259,19 @@ fn reports_that_are_no_answer() {
             &[0xFE, 6, 0x78, 6, 4, 3, 21, 30, 8],
             "reports 0x0078, not 0x0077",
         ),
-        (&[], "has 0 reports, not 1"),
-        (&[0xFD, 0x77, 0xFD, 0x77], "has 2 reports, not 1"),
-    ] {
-        let reason = format!("packets ignored: 1, the last one {reason}");
-        failed(&answered(&reported(data), "schedule", &get), 1, &reason);
-        failed(&answered(&reported(data), "schedule", &set), 1, &reason);
-    }
+        (&[], "has 0 report(s), not 1"),
+        (&[0xFD, 0x77, 0xFD, 0x77], "has 2 report(s), not 1"),
+    ];
+    thread::scope(|scope| {
+        for (data, reason) in others {
+            for words in [&get[..], &set] {
+                scope.spawn(move || {
+                    let reason = format!("packets ignored: 1, the last one {reason}");
+                    failed(&answered(&reported(data), "schedule", words), 1, &reason);
+                });
+            }
+        }
+    });
 }
 
 #[test]
