@@ -2,12 +2,9 @@
 //! nothing else. A board does not say which request it answers, so this is all that tells a late or a foreign answer from the right one.
 
 use crate::entry::{self, Place};
-use crate::ffi::Command;
+use crate::ffi::{Command, SILENT_WRITE};
 use crate::report::Report;
 use crate::rows;
-
-/// A write that reports nothing.
-const SILENT_WRITE: u8 = 2;
 
 /// The commands that a board answers with a report, whether it knows their parameter or not.
 pub fn reported(commands: &[Command]) -> impl Iterator<Item = &Command> {
@@ -54,37 +51,24 @@ fn place_of(command: &Command) -> Option<Place> {
 #[cfg(test)]
 mod tests {
     use super::*;
-
-    fn command(function: u8, number: u16, value: &[u8]) -> Command {
-        Command {
-            function,
-            number,
-            value: value.to_vec(),
-        }
-    }
+    use crate::ffi::READ;
 
     fn report(number: u16, value: &[u8]) -> Report {
-        Report {
-            number,
-            value: Some(value.to_vec()),
-        }
+        Report::new(number, Some(value))
     }
 
     fn unknown(number: u16) -> Report {
-        Report {
-            number,
-            value: None,
-        }
+        Report::new(number, None)
     }
 
     #[test]
     fn each_command_has_its_report_in_order() {
         let commands = [
-            command(1, 0x02, &[]),
-            command(2, 0x01, &[1]),
-            command(3, 0x06, &[1]),
-            command(4, 0x0101, &[]),
-            command(5, 0x63, &[]),
+            Command::new(1, 0x02, &[]),
+            Command::new(2, 0x01, &[1]),
+            Command::new(3, 0x06, &[1]),
+            Command::new(4, 0x0101, &[]),
+            Command::new(5, 0x63, &[]),
         ];
         let (speed, boost) = (report(0x02, &[9]), report(0x06, &[0]));
         let (free, timer) = (report(0x0101, &[1, 2, 3]), report(0x63, &[0, 0]));
@@ -127,7 +111,7 @@ mod tests {
         ] {
             let answers = |length: usize| {
                 let reports = [report(number, &vec![0; length])];
-                check(&[command(1, number, &[])], &reports).is_ok()
+                check(&[Command::new(READ, number, &[])], &reports).is_ok()
             };
             assert!(right.iter().all(|length| answers(*length)), "{number}");
             assert!(!wrong.iter().any(|length| answers(*length)), "{number}");
@@ -146,7 +130,7 @@ mod tests {
             (&[6], false),
             (&[], false),
         ] {
-            let command = command(3, 0x77, value);
+            let command = Command::new(3, 0x77, value);
             let answer = check(std::slice::from_ref(&command), std::slice::from_ref(&entry));
             assert_eq!(answer.is_ok(), is_right, "{value:?}");
             assert_eq!(check(&[command], &[unknown(0x77)]), Ok(()));

@@ -6,11 +6,11 @@ use std::time::Duration;
 
 use crate::boards::{self, Unit};
 use crate::client::{Kind, Raw, Request};
-use crate::ffi::{Command, DEFAULT_ID};
+use crate::ffi::{Command, DEFAULT_ID, LOWER, RAISE};
 use crate::format::Format;
 use crate::help;
 use crate::options::{Form, Options, END};
-use crate::questions::{self, Step};
+use crate::questions;
 use crate::rows;
 use crate::server::Settings;
 use crate::target;
@@ -80,12 +80,8 @@ pub fn parse(arguments: &[String]) -> Result<Task, String> {
         "board" => parse_board(rest),
         "get" => parse_request(rest, RETRIES, questions::reads),
         "set" => parse_request(rest, NO_RETRIES, questions::writes),
-        "raise" => parse_request(rest, NO_RETRIES, |words| {
-            questions::steps(Step::Raise, words)
-        }),
-        "lower" => parse_request(rest, NO_RETRIES, |words| {
-            questions::steps(Step::Lower, words)
-        }),
+        "raise" => parse_request(rest, NO_RETRIES, |words| questions::steps(RAISE, words)),
+        "lower" => parse_request(rest, NO_RETRIES, |words| questions::steps(LOWER, words)),
         "schedule" => parse_schedule(rest),
         "search" => parse_search(rest),
         _ => Err(format!("there is no command `{command}`")),

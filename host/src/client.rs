@@ -12,7 +12,7 @@ use crate::answer;
 use crate::boards::Unit;
 use crate::dump::dump;
 use crate::exchange::{Exchange, Failure, Response};
-use crate::ffi::Command;
+use crate::ffi::{Command, READ};
 use crate::format::{self, Format};
 use crate::outcome::{self, Line, Note};
 use crate::packing;
@@ -47,8 +47,6 @@ pub enum Raw {
     Output,
     File(PathBuf),
 }
-
-const READ: u8 = 1;
 
 impl Request {
     /// Whether the request can be sent as it is meant; if not, why.

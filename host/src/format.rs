@@ -121,3 +121,101 @@ fn shown(report: &Report) -> Option<Shown> {
         None => Shown::Text(format!("0x{}", hex::digits(value))),
     })
 }
+
+#[cfg(test)]
+mod tests {
+    use super::*;
+    use crate::exchange::Response;
+    use crate::ffi::Command;
+    use crate::rows::ROWS;
+    use std::time::UNIX_EPOCH;
+
+    /// A response of these bytes; its ID is whatever stands where an ID does.
+    fn response(bytes: Vec<u8>) -> Response {
+        Response {
+            sender: ([127, 0, 0, 1], 4000).into(),
+            time: UNIX_EPOCH,
+            bytes,
+            reports: Vec::new(),
+        }
+    }
+
+    /// Strings, and outside them nothing but what numbers, null and the marks between them are made of.
+    fn is_json(line: &str) -> bool {
+        let (mut in_string, mut escaped) = (false, false);
+        for character in line.chars() {
+            match character {
+                _ if escaped => escaped = false,
+                '\\' if in_string => escaped = true,
+                '"' => in_string = !in_string,
+                _ if in_string => {}
+                _ if "{}:,-.0123456789nul".contains(character) => {}
+                _ => return false,
+            }
+        }
+        !in_string && line.starts_with("{\"") && line.ends_with('}')
+    }
+
+    #[test]
+    fn every_value_of_every_row_is_printable_in_every_format() {
+        let numbers = ROWS.iter().map(|row| row.number).chain([0x0101]);
+        for number in numbers {
+            for length in [0, 1, 2, 3, 4, 6, 16, 64, 255] {
+                let values = (0..=255_u8).step_by(17);
+                for value in values {
+                    let bytes: Vec<u8> = (0..length).map(|at: u8| value.wrapping_add(at)).collect();
+                    check(&Report::new(number, Some(&bytes)), bytes.clone());
+                }
+            }
+            check(&Report::new(number, None), Vec::new());
+        }
+    }
+
+    fn check(report: &Report, bytes: Vec<u8>) {
+        let (command, response) = (Command::new(1, report.number, &[]), response(bytes));
+        let line = Line {
+            command: &command,
+            report,
+            response: &response,
+        };
+        for format in [
+            Format::Listing,
+            Format::Schedule,
+            Format::Table,
+            Format::Json,
+        ] {
+            let text = show(format, Some("flat-1"), true, &[line]);
+            let printable = |byte: u8| byte == b'\n' || (b' '..=b'~').contains(&byte);
+            assert!(text.bytes().all(printable), "{text}");
+            assert!(text.ends_with('\n') && text.lines().count() <= 3, "{text}");
+            assert!(format != Format::Json || is_json(text.trim_end()), "{text}");
+        }
+    }
+
+    #[test]
+    fn several_boards_have_a_head_each() {
+        let (command, report) = (Command::new(1, 2, &[]), Report::new(2, Some(&[3])));
+        let response = response(vec![b'A'; 30]);
+        let lines = [Line {
+            command: &command,
+            report: &report,
+            response: &response,
+        }];
+        for (format, has_head, text) in [
+            (Format::Listing, false, "number,value\n0x0002,03\n"),
+            (Format::Listing, true, "board,flat-1\nnumber,value\n0x0002,03\n"),
+            (
+                Format::Table,
+                true,
+                "board flat-1\nname        number  value  raw\nspeed-mode  0x0002  3      03\n",
+            ),
+            (
+                Format::Json,
+                false,
+                "{\"time\":\"1970-01-01T00:00:00.000Z\",\"board\":\"flat-1\",\"id\":\"AAAAAAAAAAAAAAAA\",\"number\":\"0x0002\",\"name\":\"speed-mode\",\"value\":3,\"unit\":null,\"raw\":\"03\"}\n",
+            ),
+        ] {
+            assert_eq!(show(format, Some("flat-1"), has_head, &lines), text);
+        }
+    }
+}

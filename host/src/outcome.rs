@@ -2,7 +2,7 @@
 
 use crate::entry::{self, Place};
 use crate::exchange::Response;
-use crate::ffi::Command;
+use crate::ffi::{Command, LOWER, RAISE, READ, WRITE};
 use crate::hex;
 use crate::report::Report;
 use crate::rows::{self, Access};
@@ -24,19 +24,10 @@ pub struct Note {
     pub failed: bool,
 }
 
-const READ: u8 = 1;
-const WRITE: u8 = 3;
-const RAISE: u8 = 4;
-const LOWER: u8 = 5;
-
-fn is_step(command: &Command) -> bool {
-    matches!(command.function, RAISE | LOWER)
-}
-
 /// The lines that are shown: of raises and lowers, not the reads before them.
 pub fn shown<'a>(lines: &[Line<'a>]) -> Vec<Line<'a>> {
-    let steps = lines.iter().any(|line| is_step(line.command));
-    let lines = lines.iter().filter(|line| !steps || is_step(line.command));
+    let steps = lines.iter().any(|line| line.command.is_step());
+    let lines = lines.iter().filter(|line| !steps || line.command.is_step());
     lines.copied().collect()
 }
 
@@ -141,23 +132,11 @@ fn show(number: u16, value: &[u8]) -> String {
 mod tests {
     use super::*;
 
-    fn command(function: u8, number: u16, value: &[u8]) -> Command {
-        Command {
-            function,
-            number,
-            value: value.to_vec(),
-        }
-    }
-
-    fn report(number: u16, value: Option<&[u8]>) -> Report {
-        Report {
-            number,
-            value: value.map(<[u8]>::to_vec),
-        }
-    }
-
     fn told(number: u16, sent: &[u8], held: Option<&[u8]>) -> Option<String> {
-        let note = not_stored(&command(3, number, sent), &report(number, held))?;
+        let note = not_stored(
+            &Command::new(WRITE, number, sent),
+            &Report::new(number, held),
+        )?;
         assert!(note.failed);
         Some(note.text)
     }
@@ -230,7 +209,7 @@ mod tests {
     #[test]
     fn a_step_that_changed_nothing_is_told() {
         for (function, number, before, after, text) in [
-            (4, 0x02, 4, 5, None),
+            (RAISE, 0x02, 4, 5, None),
             (
                 4,
                 0x02,
@@ -253,14 +232,14 @@ mod tests {
                 Some("0x0101 stays 0x00: no further value, or the row takes no raise"),
             ),
         ] {
-            let before = report(number, Some(&[before]));
-            let after = report(number, Some(&[after]));
-            let note = unchanged(Some(&before), &command(function, number, &[]), &after);
+            let before = Report::new(number, Some(&[before]));
+            let after = Report::new(number, Some(&[after]));
+            let note = unchanged(Some(&before), &Command::new(function, number, &[]), &after);
             assert_eq!(note.as_ref().map(|note| note.text.as_str()), text);
             assert!(!note.is_some_and(|note| note.failed));
         }
-        let unknown = report(0x0101, None);
-        let note = unchanged(Some(&unknown), &command(4, 0x0101, &[]), &unknown);
+        let unknown = Report::new(0x0101, None);
+        let note = unchanged(Some(&unknown), &Command::new(RAISE, 0x0101, &[]), &unknown);
         assert_eq!(note, None);
     }
 }

@@ -1,7 +1,7 @@
 //! How many commands a packet takes: as many as its request and its response have room for.
 
 use crate::answer;
-use crate::ffi::{Command, LONGEST_PACKET, SHORTEST_PACKET};
+use crate::ffi::{Command, LONGEST_PACKET, SHORTEST_PACKET, SILENT_WRITE, WRITE};
 use crate::rows::{self, ROWS};
 
 /// The commands cut into packets, in their order. A command that fits no packet has one of its own, which the writer refuses.
@@ -29,7 +29,8 @@ fn commands_length(commands: &[Command]) -> usize {
     let (mut page, mut function) = (0, commands.first().map(|command| command.function));
     let mut length = 0;
     for command in commands {
-        let default = if is_write(command) { 1 } else { 0 };
+        let is_write = matches!(command.function, SILENT_WRITE | WRITE);
+        let default = if is_write { 1 } else { 0 };
         length += switch(&mut function, Some(command.function));
         length += switch(&mut page, command.number >> 8);
         length += item(command.value.len(), default);
@@ -60,10 +61,6 @@ fn item(length: usize, default: usize) -> usize {
     1 + length + if length == default { 0 } else { 2 }
 }
 
-fn is_write(command: &Command) -> bool {
-    matches!(command.function, 2 | 3)
-}
-
 /// The longest value of a row. A number that the table lacks may be a row of the guide, and those are not longer than the longest here.
 fn longest_value(number: u16) -> usize {
     let longest = |row: &rows::Row| *row.size.range().end();
@@ -79,20 +76,12 @@ mod tests {
     const ID: &[u8] = b"002D6E1B34565815";
 
     fn command(function: u8, number: u16, length: usize) -> Command {
-        Command {
-            function,
-            number,
-            value: vec![b'1'; length],
-        }
+        Command::new(function, number, &vec![b'1'; length])
     }
 
     fn reads() -> Vec<Command> {
         let read = |row: &rows::Row| match row.number {
-            0x0077 => Command {
-                function: 1,
-                number: 0x0077,
-                value: vec![1, 1],
-            },
+            0x0077 => Command::new(1, 0x0077, &[1, 1]),
             number => command(1, number, 0),
         };
         ROWS.iter().map(read).collect()

@@ -1,22 +1,12 @@
 //! The commands of a command line's words.
 
 use crate::entry::{self, Entry, Place};
-use crate::ffi::Command;
+use crate::ffi::{Command, READ, WRITE};
 use crate::rows::{self, ROWS};
 use crate::values;
 
 /// The word that stands for every row and the schedule.
 const ALL: &str = "all";
-
-const READ: u8 = 1;
-/// A write with a report, so that it shows what the row holds after it.
-const WRITE: u8 = 3;
-
-#[derive(Clone, Copy)]
-pub enum Step {
-    Raise = 4,
-    Lower = 5,
-}
 
 pub fn reads(words: &[&str]) -> Result<Vec<Command>, String> {
     let mut commands = Vec::new();
@@ -39,36 +29,25 @@ fn all() -> Vec<Command> {
 }
 
 pub fn read(number: u16) -> Command {
-    Command {
-        function: READ,
-        number,
-        value: Vec::new(),
-    }
+    Command::new(READ, number, &[])
 }
 
+/// Writes with a report, so that it shows what the row holds after it.
 pub fn writes(words: &[&str]) -> Result<Vec<Command>, String> {
     let write = |word: &&str| {
         let (number, value) = values::parse_assignment(word)?;
-        Ok(Command {
-            function: WRITE,
-            number,
-            value,
-        })
+        Ok(Command::new(WRITE, number, &value))
     };
     words.iter().map(write).collect()
 }
 
 /// Each row read and then raised or lowered, so that the answer tells whether it changed.
-pub fn steps(step: Step, words: &[&str]) -> Result<Vec<Command>, String> {
+pub fn steps(function: u8, words: &[&str]) -> Result<Vec<Command>, String> {
     let mut commands = Vec::new();
     for word in words {
         let number = row_number(word)?;
         commands.push(read(number));
-        commands.push(Command {
-            function: step as u8,
-            number,
-            value: Vec::new(),
-        });
+        commands.push(Command::new(function, number, &[]));
     }
     Ok(commands)
 }
@@ -87,26 +66,20 @@ pub fn entry_reads(words: &[&str]) -> Result<Vec<Command>, String> {
 }
 
 fn read_entry(place: Place) -> Command {
-    Command {
-        function: READ,
-        number: entry::NUMBER,
-        value: vec![place.day, place.period],
-    }
+    Command::new(READ, entry::NUMBER, &[place.day, place.period])
 }
 
 pub fn entry_write(words: &[&str]) -> Result<Vec<Command>, String> {
     let words = <[&str; 5]>::try_from(words)
         .map_err(|_| String::from("schedule set takes DAY PERIOD SPEED TEMPERATURE HH:MM"))?;
-    Ok(vec![Command {
-        function: WRITE,
-        number: entry::NUMBER,
-        value: Entry::parse(words)?.value(),
-    }])
+    let value = Entry::parse(words)?.value();
+    Ok(vec![Command::new(WRITE, entry::NUMBER, &value)])
 }
 
 #[cfg(test)]
 mod tests {
     use super::*;
+    use crate::ffi::{LOWER, RAISE};
 
     #[test]
     fn all_is_every_row_and_every_entry() {
@@ -123,12 +96,12 @@ mod tests {
         );
         let more = reads(&["0x0002", "all"]).expect("a row and all");
         assert_eq!(more.len(), 1 + commands.len());
-        assert!(steps(Step::Raise, &["all"]).is_err());
+        assert!(steps(RAISE, &["all"]).is_err());
     }
 
     #[test]
     fn a_step_has_a_read_before_it() {
-        let commands = steps(Step::Lower, &["0063", "speed-mode"]).expect("two rows");
+        let commands = steps(LOWER, &["0063", "speed-mode"]).expect("two rows");
         let asked: Vec<(u8, u16)> = commands
             .iter()
             .map(|command| (command.function, command.number))

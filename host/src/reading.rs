@@ -144,18 +144,13 @@ fn show_number(unit: &'static str, names: &[(u16, &str)], bytes: &[u8]) -> Optio
         [low, high] => u16::from_le_bytes([low, high]),
         _ => return None,
     };
-    Some(match names.iter().find(|(named, _)| *named == number) {
-        Some((_, name)) => Shown::Text(String::from(*name)),
-        None => Shown::Number(number.to_string(), unit),
-    })
+    let named = name_of(names, number).map(Shown::Text);
+    Some(named.unwrap_or_else(|| Shown::Number(number.to_string(), unit)))
 }
 
 fn parse_number(unit: &str, names: &[(u16, &str)], text: &str, size: usize) -> Option<Vec<u8>> {
-    let named = names.iter().find(|(_, name)| *name == text);
-    let number = match named {
-        Some((number, _)) => *number,
-        None => digits_of(without_unit(text, unit))?,
-    };
+    let digits = || digits_of(without_unit(text, unit));
+    let number = named(names, text).or_else(digits)?;
     match (size, number.to_le_bytes()) {
         (1, [low, 0]) => Some(vec![low]),
         (2, bytes) => Some(bytes.to_vec()),
@@ -174,18 +169,17 @@ fn number_form(unit: &str, names: &[(u16, &str)]) -> String {
 
 fn show_tenths(bytes: &[u8]) -> Option<Shown> {
     let tenths = i16::from_le_bytes(bytes.try_into().ok()?);
-    Some(match MARKS.iter().find(|(mark, _)| *mark == tenths) {
-        Some((_, name)) => Shown::Text(String::from(*name)),
-        None => {
-            let sign = if tenths < 0 { "-" } else { "" };
-            let (whole, tenth) = (tenths.unsigned_abs() / 10, tenths.unsigned_abs() % 10);
-            Shown::Number(format!("{sign}{whole}.{tenth}"), CELSIUS)
-        }
-    })
+    let number = || {
+        let sign = if tenths < 0 { "-" } else { "" };
+        let (whole, tenth) = (tenths.unsigned_abs() / 10, tenths.unsigned_abs() % 10);
+        Shown::Number(format!("{sign}{whole}.{tenth}"), CELSIUS)
+    };
+    let mark = name_of(&MARKS, tenths).map(Shown::Text);
+    Some(mark.unwrap_or_else(number))
 }
 
 fn parse_tenths(text: &str) -> Option<Vec<u8>> {
-    if let Some((mark, _)) = MARKS.iter().find(|(_, name)| *name == text) {
+    if let Some(mark) = named(&MARKS, text) {
         return Some(mark.to_le_bytes().to_vec());
     }
     let text = without_unit(text, CELSIUS);
@@ -199,9 +193,19 @@ fn parse_tenths(text: &str) -> Option<Vec<u8>> {
     }
     let tenths = i32::from(digits_of(whole)?) * 10 + i32::from(digits_of(tenth)?);
     let tenths = if is_negative { -tenths } else { tenths };
-    let is_mark = MARKS.iter().any(|(mark, _)| i32::from(*mark) == tenths);
-    let tenths = i16::try_from(tenths).ok().filter(|_| !is_mark)?;
-    Some(tenths.to_le_bytes().to_vec())
+    let tenths = i16::try_from(tenths).ok()?;
+    let is_mark = name_of(&MARKS, tenths).is_some();
+    (!is_mark).then(|| tenths.to_le_bytes().to_vec())
+}
+
+fn name_of<T: PartialEq>(names: &[(T, &str)], value: T) -> Option<String> {
+    let found = names.iter().find(|(named, _)| *named == value);
+    found.map(|(_, name)| String::from(*name))
+}
+
+fn named<T: Copy>(names: &[(T, &str)], text: &str) -> Option<T> {
+    let found = names.iter().find(|(_, name)| *name == text);
+    found.map(|(value, _)| *value)
 }
 
 fn without_unit<'a>(text: &'a str, unit: &str) -> &'a str {

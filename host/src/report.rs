@@ -12,6 +12,13 @@ pub struct Report {
 }
 
 impl Report {
+    pub fn new(number: u16, value: Option<&[u8]>) -> Report {
+        Report {
+            number,
+            value: value.map(<[u8]>::to_vec),
+        }
+    }
+
     /// As a line of the listing.
     pub fn line(&self) -> String {
         let value = match &self.value {
@@ -56,11 +63,11 @@ mod tests {
     #[test]
     fn lines_are_reports_and_reports_are_lines() {
         for (line, number, value) in [
-            ("0x0063,4600", 0x63, Some(vec![0x46, 0])),
-            ("0x0402,01", 0x402, Some(vec![1])),
+            ("0x0063,4600", 0x63, Some(&[0x46, 0][..])),
+            ("0x0402,01", 0x402, Some(&[1])),
             ("0x0101,unknown", 0x101, None),
         ] {
-            let report = Report { number, value };
+            let report = Report::new(number, value);
             assert_eq!(report.line(), line);
             assert_eq!(parse(line), Some(report));
         }

@@ -38,6 +38,17 @@ impl Size {
     }
 }
 
+impl Row {
+    /// How a value is written.
+    pub fn form(&self) -> String {
+        let form = self.reading.form();
+        match self.access {
+            Invert => format!("{form}|invert"),
+            _ => form,
+        }
+    }
+}
+
 /// What a row can be asked for.
 #[derive(Clone, Copy, Debug, PartialEq, Eq)]
 pub enum Access {
@@ -198,7 +209,7 @@ fn row_line(row: &Row) -> String {
         &size_text(row.size),
         row.name,
         access_text(row.access),
-        &row.reading.form(),
+        &row.form(),
         row.wording,
     ])
 }

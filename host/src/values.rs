@@ -75,7 +75,7 @@ fn parse_reading(row: &Row, text: &str) -> Result<Vec<u8>, String> {
         None => Err(format!(
             "`{text}` is no value of {}: write {}, or bytes like 0x{}",
             rows::title(row.number),
-            row.reading.form(),
+            row.form(),
             "00".repeat(*row.size.range().start())
         )),
     }
