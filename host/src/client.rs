@@ -49,12 +49,15 @@ pub enum Raw {
 }
 
 impl Request {
+    fn is_change(&self) -> bool {
+        self.commands.iter().any(|command| command.function != READ)
+    }
+
     /// Whether the request can be sent as it is meant; if not, why.
     pub fn check(&self) -> Result<(), String> {
         let packets = |unit: &Unit| packing::pack(&self.commands, &unit.password).len();
         let fits = |unit: &Unit| packing::fits(&self.commands, &unit.password);
-        let reads = self.commands.iter().all(|command| command.function == READ);
-        if !reads && !self.units.iter().all(fits) {
+        if self.is_change() && !self.units.iter().all(fits) {
             return Err(String::from(
                 "these changes do not fit one packet of 256 bytes, or their response does not: ask for fewer at a time",
             ));
@@ -115,7 +118,7 @@ fn ask(request: &Request, unit: &Unit) -> Result<Outcome, String> {
     for commands in packing::pack(&request.commands, &unit.password) {
         let is_first = answers.is_empty();
         let responses = exchange(request, unit, target, commands);
-        let responses = responses.map_err(|failure| explain(failure, request.kind, is_first))?;
+        let responses = responses.map_err(|failure| explain(request, failure, is_first))?;
         answers.extend(responses.into_iter().map(|response| (commands, response)));
     }
     Ok(outcome(request, unit, target, answers))
@@ -142,12 +145,20 @@ fn exchange(
 }
 
 /// A board that has answered knows the ID and the password, and a search bears none.
-fn explain(failure: Failure, kind: Kind, is_first: bool) -> String {
+fn explain(request: &Request, failure: Failure, is_first: bool) -> String {
+    let may_be_wrong = is_first && request.kind != Kind::Search;
+    let hint = match may_be_wrong {
+        true => " (a wrong ID or password gets none either)",
+        false => "",
+    };
+    let doubt = match request.is_change() {
+        true => "; the change may have been made",
+        false => "",
+    };
     match failure {
-        Failure::Silence(text) if is_first && kind != Kind::Search => {
-            format!("{text} (a wrong ID or password gets none either)")
-        }
-        Failure::Silence(text) | Failure::Other(text) => text,
+        Failure::Silence(text) => format!("{text}{hint}{doubt}"),
+        Failure::Ignored(text) => format!("{text}{doubt}"),
+        Failure::Other(text) => text,
     }
 }
 

@@ -41,6 +41,9 @@ impl Response {
 pub enum Failure {
     /// Nothing came.
     Silence(String),
+    /// What came was no answer.
+    Ignored(String),
+    /// Nobody was reached.
     Other(String),
 }
 
@@ -150,7 +153,7 @@ impl Exchange<'_> {
             format!("no response from {address} within {seconds} s, requests sent: {requests}");
         match mail.ignored {
             0 => Failure::Silence(text),
-            count => Failure::Other(format!(
+            count => Failure::Ignored(format!(
                 "{text}, packets ignored: {count}, the last one {}",
                 mail.reason
             )),

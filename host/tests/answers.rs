@@ -37,6 +37,7 @@ fn an_answer_to_another_question_is_ignored_and_told() {
                     let reason = format!("packets ignored: 1, the last one {reason}");
                     failed(&output, 1, &reason);
                     assert!(!errors(&output).contains("a wrong ID or password"));
+                    assert_eq!(errors(&output).ends_with(DOUBT), command == "set");
                 }
             });
         }
@@ -205,6 +206,9 @@ fn a_closed_port_is_told_at_once() {
     assert!(begin.elapsed() < Duration::from_secs(15));
 }
 
+/// What is said of a change without an answer.
+const DOUBT: &str = "; the change may have been made\n";
+
 const HINT: &str = "(a wrong ID or password gets none either)";
 
 #[test]
@@ -213,7 +217,9 @@ fn a_wrong_id_or_password_is_named_where_it_can_be_the_cause() {
     let host = silent.local_addr().expect("an address").to_string();
     let more = ["-t", SHORT, "-r", "0"];
     let get = asked(&host, "get", &[&more[..], &["0x0001"]].concat());
-    failed(&get, 1, HINT);
+    failed(&get, 1, &format!("{HINT}\n"));
+    let set = asked(&host, "set", &[&more[..], &["0x0001=1"]].concat());
+    failed(&set, 1, &format!("{HINT}{DOUBT}"));
     let search = run(&[&["search", "--host", &host], &more[..]].concat());
     failed(&search, 1, "no response from");
     assert!(!errors(&search).contains(HINT));
