@@ -5,12 +5,12 @@ use std::path::PathBuf;
 use std::time::Duration;
 
 use crate::boards::{self, Unit};
-use crate::client::{Kind, Raw, Request};
 use crate::ffi::{Command, DEFAULT_ID, LOWER, RAISE};
 use crate::format::Format;
 use crate::help;
 use crate::options::{Form, Options, END};
 use crate::questions;
+use crate::request::{Kind, Raw, Request};
 use crate::rows;
 use crate::server::Settings;
 use crate::target;

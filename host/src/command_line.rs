@@ -1,11 +1,10 @@
 //! The program: what its arguments ask for is done, and what goes wrong is a line on standard error.
 
 use std::ffi::OsString;
-use std::io::{self, Write};
 use std::process::ExitCode;
 
 use crate::arguments::{self, Task};
-use crate::{client, server, signals};
+use crate::{client, output, server, signals};
 
 const FAILED: u8 = 1;
 const BAD_ARGUMENTS: u8 = 2;
@@ -17,7 +16,7 @@ pub fn run(arguments: impl Iterator<Item = OsString>) -> ExitCode {
         Err(error) => return fail(BAD_ARGUMENTS, &format!("{error} (udgornwy --help)")),
     };
     let done = match task {
-        Task::Print(text) => client::put(text.as_bytes()),
+        Task::Print(text) => output::put(text.as_bytes()),
         Task::Request(request) => match client::run(&request) {
             true => Ok(()),
             // It has said why.
@@ -42,6 +41,6 @@ fn texts(arguments: impl Iterator<Item = OsString>) -> Result<Vec<String>, Strin
 }
 
 fn fail(status: u8, error: &str) -> ExitCode {
-    let _ = writeln!(io::stderr(), "udgornwy: {error}");
+    output::warn(error);
     ExitCode::from(status)
 }

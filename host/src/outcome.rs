@@ -158,46 +158,48 @@ mod tests {
 
     #[test]
     fn what_was_not_stored_is_told_with_both_values() {
-        for (number, sent, held, text) in [
+        for (number, sent, held, name, values) in [
             (
                 0x18,
                 &[31][..],
-                Some(&[15][..]),
-                "temperature-setpoint-normal (0x0018) was not stored: sent 31 degC (1F), held 15 degC (0F)",
+                &[15][..],
+                "temperature-setpoint-normal (0x0018)",
+                "sent 31 degC (1F), held 15 degC (0F)",
             ),
             (
                 0x01,
                 &[2],
-                Some(&[2]),
-                "unit-on-off (0x0001) was not stored: sent 2 (02), held 2 (02)",
+                &[2],
+                "unit-on-off (0x0001)",
+                "sent 2 (02), held 2 (02)",
             ),
             (
                 0x0401,
                 &[2],
-                Some(&[0]),
-                "sound-generator (0x0401) was not stored: sent 2 (02), held off (00)",
+                &[0],
+                "sound-generator (0x0401)",
+                "sent 2 (02), held off (00)",
             ),
             (
                 0x63,
                 &[70],
-                Some(&[0, 0]),
-                "filter-replacement-timer (0x0063) was not stored: sent 0x46, held 0 d (0000)",
-            ),
-            (
-                0x0101,
-                &[1],
-                None,
-                "0x0101 was not stored: sent 0x01, the board does not know it",
+                &[0, 0],
+                "filter-replacement-timer (0x0063)",
+                "sent 0x46, held 0 d (0000)",
             ),
             (
                 0x95,
                 b"Home",
-                Some(b"\x1B[2J"),
-                "wifi-name (0x0095) was not stored: sent Home (486F6D65), held \\x1B[2J (1B5B324A)",
+                b"\x1B[2J",
+                "wifi-name (0x0095)",
+                "sent Home (486F6D65), held \\x1B[2J (1B5B324A)",
             ),
         ] {
-            assert_eq!(told(number, sent, held).as_deref(), Some(text));
+            let text = format!("{name} was not stored: {values}");
+            assert_eq!(told(number, sent, Some(held)), Some(text));
         }
+        let unknown = "0x0101 was not stored: sent 0x01, the board does not know it";
+        assert_eq!(told(0x0101, &[1], None).as_deref(), Some(unknown));
         let entry = told(0x77, &[9, 2, 5, 21, 30, 22], Some(&[6, 2, 5, 21, 30, 23]));
         let entry = entry.expect("an entry that was not stored");
         assert!(

@@ -31,8 +31,14 @@ pub fn check(text: &str) -> Result<(), String> {
     }
 }
 
-/// `HOST` or `HOST:PORT`; an IPv6 address with a port stands in brackets.
+/// One host: `HOST` or `HOST:PORT`; an IPv6 address with a port stands in brackets.
 pub fn resolve(text: &str) -> Result<Target, String> {
+    check(text)?;
+    resolve_any(text)
+}
+
+/// One host, or every board.
+pub fn resolve_any(text: &str) -> Result<Target, String> {
     let (host, port) = split(text)?;
     if host == BROADCAST {
         return Ok(Target {
@@ -97,7 +103,9 @@ mod tests {
             ("broadcast:5000", "255.255.255.255:5000", true),
         ] {
             let address = address.parse().expect("an address");
-            assert_eq!(resolve(text), Ok(Target { address, every }), "{text}");
+            let target = Target { address, every };
+            assert_eq!(resolve_any(text), Ok(target), "{text}");
+            assert_eq!(resolve(text).ok(), (!every).then_some(target), "{text}");
         }
         for bad in [
             "127.0.0.1:",
@@ -115,7 +123,7 @@ mod tests {
     #[test]
     fn several_hosts_are_not_one() {
         for several in ["255.255.255.255", "224.0.0.1", "[ff02::1]:4000"] {
-            assert!(resolve(several).is_err(), "{several}");
+            assert!(resolve_any(several).is_err(), "{several}");
         }
         for every in ["broadcast", "broadcast:5000"] {
             assert!(is_broadcast(every) && check(every).is_err());

@@ -6,6 +6,7 @@ use common::*;
 use std::fs::{self, Permissions};
 use std::net::UdpSocket;
 use std::os::unix::fs::PermissionsExt;
+use std::process::Output;
 use std::time::{Duration, Instant};
 
 /// A file that only its owner reads, with these lines.
@@ -24,68 +25,93 @@ fn address(socket: &UdpSocket) -> String {
     socket.local_addr().expect("an address").to_string()
 }
 
-#[test]
-fn a_board_is_asked_by_its_name() {
-    let (first, second) = (Board::client(), Board::client());
+/// Two boards and the file that names them; the second has speed 3.
+fn two_boards(name: &str) -> ([Board; 2], String) {
+    let boards = [Board::client(), Board::client()];
     let lines = [
         "# the study's boards\n\n",
-        &line("flat-1", &first.host()),
-        &line("flat-2", &second.host()),
+        &line("flat-1", &boards[0].host()),
+        &line("flat-2", &boards[1].host()),
     ];
-    let boards = file("boards-by-name", &lines.concat());
-    let asked = |command: &str, more: &[&str]| {
-        let options = [command, "--boards", &boards, "-t", "20"];
-        run(&[&options[..], more].concat())
-    };
-    let set = asked("set", &["--board", "flat-2", "speed-mode=3"]);
-    assert_eq!(listing(&set), "number,value\n0x0002,03\n");
-    let one = asked("get", &["--board", "flat-1", "speed-mode"]);
-    assert_eq!(
-        (listing(&one), errors(&one)),
-        (String::from("number,value\n0x0002,01\n"), String::new())
-    );
-    // Each is shown when it is there, in either order.
-    let (first, second) = (
-        "board,flat-1\nnumber,value\n0x0002,01\n",
-        "board,flat-2\nnumber,value\n0x0002,03\n",
-    );
+    boards[1].listed("set", &["speed-mode=3"]);
+    (boards, file(name, &lines.concat()))
+}
+
+/// Runs a command on boards of a file.
+fn asked_by_name(boards: &str, command: &str, more: &[&str]) -> Output {
+    let options = [command, "--boards", boards, "-t", "20"];
+    run(&[&options[..], more].concat())
+}
+
+#[test]
+fn a_board_is_asked_by_its_name() {
+    let (_boards, file) = two_boards("boards-one");
+    for (name, listed) in [("flat-1", "0x0002,01"), ("flat-2", "0x0002,03")] {
+        let output = asked_by_name(&file, "get", &["--board", name, "speed-mode"]);
+        assert_eq!(listing(&output), format!("number,value\n{listed}\n"));
+        assert_eq!(errors(&output), "");
+    }
+    let set = asked_by_name(&file, "set", &["--board", "flat-2", "speed-mode=4"]);
+    assert_eq!(listing(&set), "number,value\n0x0002,04\n");
+    let json = ["--board", "flat-2", "--format", "json", "speed-mode"];
+    let json = listing(&asked_by_name(&file, "get", &json));
+    let members = format!("\"board\":\"flat-2\",\"id\":\"{ID}\",\"number\":\"0x0002\"");
+    assert!(json.contains(&members), "{json}");
+}
+
+/// Each is shown when it is there, in either order.
+#[test]
+fn several_boards_are_shown_with_their_names() {
+    let (_boards, file) = two_boards("boards-two");
     for names in [
         &["--board", "flat-1", "--board", "flat-2"][..],
         &["--board", "all"],
     ] {
-        let both = listing(&asked("get", &[names, &["speed-mode"]].concat()));
-        assert!(
-            [[first, second], [second, first]]
-                .map(|two| two.concat())
-                .contains(&both),
-            "{both}"
-        );
+        for (command, words, shown) in [
+            (
+                "get",
+                &["speed-mode"][..],
+                [
+                    "board,flat-1\nnumber,value\n0x0002,01\n",
+                    "board,flat-2\nnumber,value\n0x0002,03\n",
+                ],
+            ),
+            (
+                "schedule",
+                &["get", "sunday", "4"],
+                [
+                    "board flat-1\nsunday     period 4  standby  ventilation only  until 00:00\n",
+                    "board flat-2\nsunday     period 4  standby  ventilation only  until 00:00\n",
+                ],
+            ),
+            (
+                "get",
+                &["--format", "table", "speed-mode"],
+                [
+                    "board flat-1\nname        number  value  raw\nspeed-mode  0x0002  1      01\n",
+                    "board flat-2\nname        number  value  raw\nspeed-mode  0x0002  3      03\n",
+                ],
+            ),
+        ] {
+            let listed = listing(&asked_by_name(&file, command, &[names, words].concat()));
+            let [first, second] = shown;
+            let is_right = [[first, second], [second, first]].map(|two| two.concat());
+            assert!(is_right.contains(&listed), "{listed}");
+        }
     }
-    let json = listing(&asked(
-        "get",
-        &["--board", "flat-2", "--format", "json", "speed-mode"],
-    ));
-    assert!(json.contains(&format!(
-        "\"board\":\"flat-2\",\"id\":\"{ID}\",\"number\":\"0x0002\""
-    )));
-    let table = listing(&asked(
-        "get",
-        &["--board", "all", "--format", "table", "speed-mode"],
-    ));
-    assert!(table
-        .contains("board flat-1\nname        number  value  raw\nspeed-mode  0x0002  1      01\n"));
-    let schedule = listing(&asked(
-        "schedule",
-        &["--board", "all", "get", "monday", "1"],
-    ));
-    assert!(schedule.contains("board flat-2\nmonday     period 1  standby"));
-    let refused = asked("set", &["--board", "all", "0x0018=31"]);
+}
+
+#[test]
+fn what_was_not_stored_is_told_of_each_board() {
+    let (_boards, file) = two_boards("boards-told");
+    let refused = asked_by_name(&file, "set", &["--board", "all", "0x0018=31"]);
     assert_eq!(refused.status.code(), Some(1));
     for name in ["flat-1", "flat-2"] {
         let told =
             format!("udgornwy: {name}: temperature-setpoint-normal (0x0018) was not stored: ");
         assert!(errors(&refused).contains(&told));
     }
+    assert_eq!(errors(&refused).lines().count(), 2);
 }
 
 /// Eight that are silent take as long as one, and the one that answers is shown before they are given up.
@@ -143,7 +169,7 @@ fn a_file_that_others_can_read_is_warned_of() {
 #[test]
 fn a_wrong_file_is_refused_with_the_line() {
     let right = line("flat", NOBODY);
-    for (index, (text, reason)) in [
+    for (text, reason) in [
         (
             format!("{right}\nflat-2 127.0.0.1\n"),
             "line 3: a board has a name",
@@ -165,42 +191,40 @@ fn a_wrong_file_is_refused_with_the_line() {
             "line 1: a password is up to 8",
         ),
         (String::from("# nothing\n"), "has no board `all`"),
-    ]
-    .into_iter()
-    .enumerate()
-    {
-        let boards = file(&format!("boards-wrong-{index}"), &text);
-        let output = run(&["get", "--boards", &boards, "--board", "all", "0x0002"]);
+    ] {
+        let boards = file("boards-wrong", &text);
+        let output = asked_by_name(&boards, "get", &["--board", "all", "0x0002"]);
         failed(&output, 2, reason);
         assert!(!errors(&output).contains("secret"));
     }
-    let boards = file("boards-right", &right);
-    let asked = |more: &[&str]| run(&[&["get", "--boards", &boards], more].concat());
-    failed(
-        &asked(&["--board", "other", "0x0002"]),
-        2,
-        "has no board `other`",
-    );
-    failed(&asked(&["0x0002"]), 2, "--boards needs --board NAME");
-    failed(
-        &asked(&["--board", "flat", "--id", ID, "0x0002"]),
-        2,
-        "--id is not wanted",
-    );
-    failed(
-        &run(&["get", "--board", "flat", "0x0002"]),
-        2,
-        "--board needs --boards FILE",
-    );
-    let missing = run(&[
-        "get",
-        "--boards",
-        "no/such/file",
-        "--board",
-        "all",
-        "0x0002",
-    ]);
-    failed(&missing, 2, "cannot read no/such/file");
+}
+
+#[test]
+fn options_that_do_not_go_with_a_file_are_refused() {
+    let boards = file("boards-options", &line("flat", NOBODY));
+    let asked = |more: &[&str]| asked_by_name(&boards, "get", more);
+    for (output, reason) in [
+        (
+            asked(&["--board", "other", "0x0002"]),
+            "has no board `other`",
+        ),
+        (asked(&["0x0002"]), "--boards needs --board NAME"),
+        (
+            asked(&["--board", "flat", "--id", ID, "0x0002"]),
+            "--id is not wanted",
+        ),
+        (
+            run(&["get", "--board", "flat", "0x0002"]),
+            "--board needs --boards FILE",
+        ),
+        (
+            asked_by_name("no/such/file", "get", &["--board", "all", "0x0002"]),
+            "cannot read no/such/file",
+        ),
+    ] {
+        failed(&output, 2, reason);
+    }
+    // Named twice, it is one board, of which one response is kept.
     let raw = ["--board", "flat", "--board", "all", "--raw", "-", "0x0002"];
-    assert!(errors(&asked(&raw)).contains("nobody listens"));
+    failed(&asked(&raw), 1, "flat: nobody listens on");
 }

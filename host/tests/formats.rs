@@ -72,83 +72,33 @@ fn without_time(line: &str) -> &str {
     members.strip_prefix("\",").expect("more members")
 }
 
+/// For each of the rows: number, name, value, unit and bytes.
+#[rustfmt::skip]
+const OBJECTS: [[&str; 5]; 11] = [
+    ["0x0001", "'unit-on-off'", "'on'", "null", "'01'"],
+    ["0x000B", "'timer-countdown-time'", "'1h02m03s'", "null", "'030201'"],
+    ["0x0018", "'temperature-setpoint-normal'", "21", "'degC'", "'15'"],
+    ["0x001F", "'intake-air-temperature'", "-5.0", "'degC'", "'CEFF'"],
+    ["0x0020", "'supply-air-temperature'", "'sensor missing'", "null", "'0080'"],
+    ["0x0021", "'extract-air-temperature'", "'short circuit'", "null", "'FF7F'"],
+    ["0x006F", "'rtc-time'", "'08:30:05'", "null", "'051E08'"],
+    ["0x0070", "'rtc-calendar'", "'2026-11-16 monday'", "null", "'10010B1A'"],
+    ["0x0095", "'wifi-name'", "'Home 2'", "null", "'486F6D652032'"],
+    ["0x009C", "'wifi-ip-address'", "'192.168.4.1'", "null", "'C0A80401'"],
+    ["0x0101", "null", "null", "null", "null"],
+];
+
 #[test]
 fn json_has_an_object_for_each_report() {
     let board = measured();
     board.listed("set", &VALUES);
-    let words = [&["--format", "json"], &ROWS[..]].concat();
-    let listed = board.listed("get", &words);
+    let listed = board.listed("get", &[&["--format", "json"], &ROWS[..]].concat());
     let members: Vec<&str> = listed.lines().map(without_time).collect();
-    let expected = [
-        ("0x0001", "\"unit-on-off\"", "\"on\"", "null", "\"01\""),
-        (
-            "0x000B",
-            "\"timer-countdown-time\"",
-            "\"1h02m03s\"",
-            "null",
-            "\"030201\"",
-        ),
-        (
-            "0x0018",
-            "\"temperature-setpoint-normal\"",
-            "21",
-            "\"degC\"",
-            "\"15\"",
-        ),
-        (
-            "0x001F",
-            "\"intake-air-temperature\"",
-            "-5.0",
-            "\"degC\"",
-            "\"CEFF\"",
-        ),
-        (
-            "0x0020",
-            "\"supply-air-temperature\"",
-            "\"sensor missing\"",
-            "null",
-            "\"0080\"",
-        ),
-        (
-            "0x0021",
-            "\"extract-air-temperature\"",
-            "\"short circuit\"",
-            "null",
-            "\"FF7F\"",
-        ),
-        (
-            "0x006F",
-            "\"rtc-time\"",
-            "\"08:30:05\"",
-            "null",
-            "\"051E08\"",
-        ),
-        (
-            "0x0070",
-            "\"rtc-calendar\"",
-            "\"2026-11-16 monday\"",
-            "null",
-            "\"10010B1A\"",
-        ),
-        (
-            "0x0095",
-            "\"wifi-name\"",
-            "\"Home 2\"",
-            "null",
-            "\"486F6D652032\"",
-        ),
-        (
-            "0x009C",
-            "\"wifi-ip-address\"",
-            "\"192.168.4.1\"",
-            "null",
-            "\"C0A80401\"",
-        ),
-        ("0x0101", "null", "null", "null", "null"),
-    ];
-    let expected = expected.map(|(number, name, value, unit, raw)| {
-        let board = format!("\"board\":null,\"id\":\"{ID}\"");
-        format!("{board},\"number\":\"{number}\",\"name\":{name},\"value\":{value},\"unit\":{unit},\"raw\":{raw}}}")
+    let expected = OBJECTS.map(|[number, name, value, unit, raw]| {
+        let members = format!(
+            "'board':null,'id':'{ID}','number':'{number}','name':{name},'value':{value},'unit':{unit},'raw':{raw}}}"
+        );
+        members.replace('\'', "\"")
     });
     assert_eq!(members, expected);
 }
