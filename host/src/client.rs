@@ -3,13 +3,11 @@
 use std::sync::mpsc;
 use std::thread;
 
-use crate::answer;
 use crate::boards::Unit;
 use crate::exchange::{Exchange, Failure, Response};
 use crate::ffi::Command;
-use crate::format;
-use crate::outcome::{self, Line, Note};
-use crate::output::{self, Outcome, Part};
+use crate::outcome::{self, Outcome};
+use crate::output;
 use crate::packing;
 use crate::request::{Kind, Request};
 use crate::target::{self, Target};
@@ -48,7 +46,7 @@ fn ask(request: &Request, unit: &Unit) -> Result<Outcome, String> {
         let responses = responses.map_err(|failure| explain(request, failure, is_first))?;
         answers.extend(responses.into_iter().map(|response| (commands, response)));
     }
-    Ok(outcome(request, unit, target, answers))
+    Ok(outcome::of(request, unit, target, answers))
 }
 
 fn exchange(
@@ -86,56 +84,5 @@ fn explain(request: &Request, failure: Failure, is_first: bool) -> String {
         Failure::Silence(text) => format!("{text}{hint}{doubt}"),
         Failure::Ignored(text) => format!("{text}{doubt}"),
         Failure::Other(text) => text,
-    }
-}
-
-fn outcome(
-    request: &Request,
-    unit: &Unit,
-    target: Target,
-    answers: Vec<(&[Command], Response)>,
-) -> Outcome {
-    let lines: Vec<Vec<Line>> = answers.iter().map(lines_of).collect();
-    // Several boards have a listing each, several packets of one board have one.
-    let lines = match target.every {
-        true => lines,
-        false => vec![lines.concat()],
-    };
-    let mut notes: Vec<Note> = lines
-        .iter()
-        .flat_map(|lines| outcome::notes(lines))
-        .collect();
-    if request.kind == Kind::Schedule {
-        notes.extend(
-            lines
-                .iter()
-                .flat_map(|lines| outcome::unknown_entries(lines)),
-        );
-    }
-    let part = |lines: &Vec<Line>| part(request, unit, target, lines);
-    Outcome {
-        parts: lines.iter().map(part).collect(),
-        notes,
-        responses: answers.into_iter().map(|(_, response)| response).collect(),
-    }
-}
-
-fn lines_of<'a>((commands, response): &'a (&[Command], Response)) -> Vec<Line<'a>> {
-    let pairs = answer::reported(commands).zip(&response.reports);
-    let line = |(command, report)| Line {
-        command,
-        report,
-        response,
-    };
-    pairs.map(line).collect()
-}
-
-fn part(request: &Request, unit: &Unit, target: Target, lines: &[Line]) -> Part {
-    let sender = lines.first().map(|line| line.response.sender);
-    let name = unit.name.as_deref();
-    let has_head = request.units.len() > 1;
-    Part {
-        sender: sender.filter(|_| target.every),
-        text: format::show(request.format, name, has_head, &outcome::shown(lines)),
     }
 }

@@ -17,6 +17,7 @@ pub mod fields;
 pub mod format;
 pub mod help;
 pub mod hex;
+pub mod notes;
 pub mod options;
 pub mod outcome;
 pub mod output;

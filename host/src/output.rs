@@ -6,23 +6,8 @@ use std::net::SocketAddr;
 
 use crate::boards::Unit;
 use crate::dump::dump;
-use crate::exchange::Response;
-use crate::outcome::Note;
+use crate::outcome::Outcome;
 use crate::request::{Raw, Request};
-
-/// What a board's answer comes to.
-pub struct Outcome {
-    pub parts: Vec<Part>,
-    pub notes: Vec<Note>,
-    pub responses: Vec<Response>,
-}
-
-/// What is shown of one board.
-pub struct Part {
-    /// Who it is from, where that is not known beforehand.
-    pub sender: Option<SocketAddr>,
-    pub text: String,
-}
 
 /// Shows what a board has answered; whether all went well.
 pub fn show(request: &Request, unit: &Unit, outcome: &Result<Outcome, String>) -> bool {

@@ -101,7 +101,11 @@ fn a_write_by_bytes_is_listed_as_bytes() {
             "0x0077,unknown\n",
             Some("the board does not know it"),
         ),
-        ("0x06010615160F", "0x0077,06010215160F\n", Some("speed 6")),
+        (
+            "0x06010615160F",
+            "0x0077,06010215160F\n",
+            Some("sent saturday 1 6 21 15:22 (06010615160F)"),
+        ),
         (
             "0x0601",
             "0x0077,unknown\n",
@@ -204,7 +208,7 @@ fn an_entry_that_was_not_stored_is_shown_and_told() {
         let shown = String::from_utf8(output.stdout.clone()).expect("text");
         assert!(shown.starts_with("saturday   period 4  ") && shown.lines().count() == 1);
         let told = errors(&output);
-        let sent = "sent weekend    period 4  speed 3  21 degrees        until 08:30 (090403151E08), held saturday ";
+        let sent = "sent weekend 4 3 21 08:30 (090403151E08), held saturday 4 ";
         assert!(
             told.starts_with("udgornwy: schedule-setup (0x0077) was not stored: "),
             "{told}"
