@@ -3,9 +3,10 @@
 const OVERVIEW: &str = include_str!("help/overview.txt");
 const UNIT: &str = include_str!("help/unit.txt");
 const OPTIONS: &str = include_str!("help/options.txt");
+const EXIT: &str = include_str!("help/exit.txt");
 
 pub fn overview() -> String {
-    String::from(OVERVIEW)
+    [OVERVIEW, EXIT].concat()
 }
 
 pub fn version() -> String {
@@ -17,11 +18,11 @@ pub fn of(command: &str) -> Option<String> {
     let parts: &[&str] = match command {
         "board" => &[include_str!("help/board.txt")],
         "rows" => &[include_str!("help/rows.txt")],
-        "get" => &[include_str!("help/get.txt"), UNIT, OPTIONS],
-        "set" => &[include_str!("help/set.txt"), UNIT, OPTIONS],
-        "raise" | "lower" => &[include_str!("help/steps.txt"), UNIT, OPTIONS],
-        "schedule" => &[include_str!("help/schedule.txt"), UNIT, OPTIONS],
-        "search" => &[include_str!("help/search.txt"), OPTIONS],
+        "get" => &[include_str!("help/get.txt"), UNIT, OPTIONS, EXIT],
+        "set" => &[include_str!("help/set.txt"), UNIT, OPTIONS, EXIT],
+        "raise" | "lower" => &[include_str!("help/steps.txt"), UNIT, OPTIONS, EXIT],
+        "schedule" => &[include_str!("help/schedule.txt"), UNIT, OPTIONS, EXIT],
+        "search" => &[include_str!("help/search.txt"), OPTIONS, EXIT],
         _ => return None,
     };
     Some(parts.concat())
@@ -36,7 +37,7 @@ mod tests {
         "board", "rows", "get", "set", "raise", "lower", "schedule", "search",
     ];
 
-    /// The lines that begin with `  udgornwy COMMAND --` or are one; the file of boards is not there to be read.
+    /// But for the file of boards, which is not there to be read.
     #[test]
     fn every_example_is_taken() {
         for command in COMMANDS {
@@ -67,7 +68,7 @@ mod tests {
             let lines = of(command).expect(command);
             assert!(lines.lines().all(|line| line.len() <= 132), "{command}");
         }
-        assert!(OVERVIEW.lines().all(|line| line.len() <= 132));
+        assert!(overview().lines().all(|line| line.len() <= 132));
         assert_eq!(of("fetch"), None);
     }
 }

@@ -98,6 +98,27 @@ fn a_late_answer_is_not_taken_for_the_next_question() {
     assert_ne!(clients[0], clients[1]);
 }
 
+/// The same question again, its first answer late: it goes where the first client was.
+#[test]
+fn a_late_answer_to_the_same_question_is_not_taken() {
+    let board = open_socket();
+    let host = board.local_addr().expect("an address").to_string();
+    let outputs = thread::scope(|scope| {
+        scope.spawn(|| {
+            let clients = [(); 2].map(|()| {
+                let (_, client) = board.recv_from(&mut [0; 256]).expect("a request");
+                client
+            });
+            let _ = board.send_to(&answer(&[0x02, 1]), clients[0]);
+            let sent = board.send_to(&answer(&[0x02, 5]), clients[1]);
+            sent.expect("a packet sent");
+        });
+        [SHORT, "20"].map(|limit| asked(&host, "get", &["-t", limit, "-r", "0", "0x0002"]))
+    });
+    failed(&outputs[0], 1, "no response from");
+    assert_eq!(listing(&outputs[1]), "number,value\n0x0002,05\n");
+}
+
 /// 115 reads of a byte each need two packets behind a password of four.
 #[test]
 fn each_packet_has_a_socket_of_its_own() {
