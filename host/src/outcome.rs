@@ -84,3 +84,77 @@ fn shown<'a>(lines: &[Line<'a>]) -> Vec<Line<'a>> {
     let lines = lines.iter().filter(|line| !steps || line.command.is_step());
     lines.copied().collect()
 }
+
+#[cfg(test)]
+mod tests {
+    use super::*;
+    use crate::ffi::{RAISE, READ};
+    use crate::format::Format;
+    use std::time::{Duration, UNIX_EPOCH};
+
+    fn request(kind: Kind) -> Request {
+        Request {
+            units: Vec::new(),
+            warning: None,
+            kind,
+            commands: Vec::new(),
+            limit: Duration::ZERO,
+            retries: 0,
+            dump: false,
+            format: Format::Listing,
+            raw: None,
+        }
+    }
+
+    fn response(port: u16, value: &[u8]) -> Response {
+        Response {
+            sender: ([127, 0, 0, 1], port).into(),
+            time: UNIX_EPOCH,
+            bytes: Vec::new(),
+            reports: value
+                .iter()
+                .map(|value| Report::new(2, Some(&[*value])))
+                .collect(),
+        }
+    }
+
+    fn outcome(kind: Kind, every: bool, answers: Vec<(&[Command], Response)>) -> Outcome {
+        let unit = Unit {
+            name: None,
+            host: String::new(),
+            id: Vec::new(),
+            password: Vec::new(),
+        };
+        let address = ([127, 0, 0, 1], 4000).into();
+        of(&request(kind), &unit, Target { address, every }, answers)
+    }
+
+    fn texts(outcome: &Outcome) -> Vec<&str> {
+        outcome.parts.iter().map(|part| &part.text[..]).collect()
+    }
+
+    #[test]
+    fn boards_have_a_listing_each_and_packets_have_one() {
+        let read = [Command::new(READ, 2, &[])];
+        let answers = || vec![(&read[..], response(1, &[3])), (&read, response(2, &[4]))];
+        let search = outcome(Kind::Search, true, answers());
+        assert_eq!(
+            texts(&search),
+            ["number,value\n0x0002,03\n", "number,value\n0x0002,04\n"]
+        );
+        let senders = search.parts.iter().map(|part| part.sender);
+        let ports: Vec<u16> = senders.flatten().map(|sender| sender.port()).collect();
+        assert_eq!(ports, [1, 2]);
+        let get = outcome(Kind::Rows, false, answers());
+        assert_eq!(texts(&get), ["number,value\n0x0002,03\n0x0002,04\n"]);
+        assert!(get.parts[0].sender.is_none() && get.responses.len() == 2);
+    }
+
+    #[test]
+    fn the_read_before_a_raise_is_not_shown() {
+        let raise = [Command::new(READ, 2, &[]), Command::new(RAISE, 2, &[])];
+        let raised = outcome(Kind::Rows, false, vec![(&raise[..], response(1, &[5, 5]))]);
+        assert_eq!(texts(&raised), ["number,value\n0x0002,05\n"]);
+        assert!(raised.notes.len() == 1 && !raised.notes[0].failed);
+    }
+}

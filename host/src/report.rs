@@ -59,6 +59,8 @@ fn parse(line: &str) -> Option<Report> {
 #[cfg(test)]
 mod tests {
     use super::*;
+    use crate::packing;
+    use crate::questions;
 
     #[test]
     fn lines_are_reports_and_reports_are_lines() {
@@ -81,6 +83,27 @@ mod tests {
             "0x0063,4",
         ] {
             assert_eq!(parse(bad), None, "{bad}");
+        }
+    }
+
+    /// Every row and an unknown one, as the library lists them.
+    #[test]
+    fn reports_have_the_lines_of_the_listing() {
+        let id = b"002D6E1B34565815";
+        let Ok(mut board) = ffi::set_up(id, b"", 1) else {
+            panic!("this board is set up");
+        };
+        let mut commands = questions::reads(&["all"]).expect("all rows");
+        commands.push(questions::read(0x0101));
+        for commands in packing::pack(&commands, b"") {
+            let request = ffi::write(id, b"", commands).expect("a request");
+            let ffi::Answer::Response(response) = ffi::packet(&mut board, &request) else {
+                panic!("no response");
+            };
+            let listing = ffi::list(&response).expect("a listing");
+            let lines = reports(&response).expect("reports");
+            let lines: String = lines.iter().map(|report| report.line() + "\n").collect();
+            assert_eq!(format!("{HEAD}\n{lines}").into_bytes(), listing);
         }
     }
 }
