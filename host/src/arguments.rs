@@ -4,23 +4,24 @@ use std::net::SocketAddr;
 use std::path::PathBuf;
 use std::time::Duration;
 
-use crate::client::Request;
-use crate::entry::{self, Entry};
-use crate::ffi::{Command, DEFAULT_ID, ID_SIZE};
-use crate::hex;
-use crate::options::{Form, Options};
+use crate::boards::{self, Unit};
+use crate::ffi::{Command, DEFAULT_ID, LOWER, RAISE};
+use crate::format::Format;
+use crate::help;
+use crate::options::{Form, Options, END};
+use crate::questions;
+use crate::request::{Kind, Raw, Request};
 use crate::rows;
-use crate::schedule;
 use crate::server::Settings;
+use crate::target;
 use crate::values;
 
 #[derive(Debug)]
 pub enum Task {
-    Help,
-    Rows,
+    /// Something to read, on standard output.
+    Print(String),
     Board(Settings),
     Request(Request),
-    Schedule(Request),
 }
 
 const BOARD: Form = Form {
@@ -29,12 +30,22 @@ const BOARD: Form = Form {
 };
 
 const REQUEST: Form = Form {
-    valued: &["--host", "--id", "--password", "-t", "-r", "--raw"],
+    valued: &[
+        "--host",
+        "--id",
+        "--password",
+        "--boards",
+        "--board",
+        "-t",
+        "-r",
+        "--format",
+        "--raw",
+    ],
     flags: &["-d"],
 };
 
 const SEARCH: Form = Form {
-    valued: &["--host", "-t", "-r", "--raw"],
+    valued: &["--host", "-t", "-r", "--format", "--raw"],
     flags: &["-d"],
 };
 
@@ -56,43 +67,55 @@ pub fn parse(arguments: &[String]) -> Result<Task, String> {
         [] => return Err(String::from("there is no command")),
         [command, rest @ ..] => (command.as_str(), rest),
     };
-    if arguments
-        .iter()
-        .any(|argument| argument == "--help" || argument == "-h")
-    {
-        return Ok(Task::Help);
+    let mut options = arguments.iter().take_while(|argument| *argument != END);
+    if options.any(|argument| argument == "--help" || argument == "-h") {
+        return Ok(Task::Print(
+            help::of(command).unwrap_or_else(help::overview),
+        ));
     }
     match command {
-        "help" => Ok(Task::Help),
+        "--version" | "-V" => Ok(Task::Print(help::version())),
+        "help" => parse_help(rest),
         "rows" => parse_rows(rest),
         "board" => parse_board(rest),
-        "get" => parse_request(rest, RETRIES, |word| command_without_value(1, word)),
-        "set" => parse_request(rest, NO_RETRIES, command_with_value),
-        "raise" => parse_request(rest, NO_RETRIES, |word| command_without_value(4, word)),
-        "lower" => parse_request(rest, NO_RETRIES, |word| command_without_value(5, word)),
+        "get" => parse_request(rest, RETRIES, questions::reads),
+        "set" => parse_request(rest, NO_RETRIES, questions::writes),
+        "raise" => parse_request(rest, NO_RETRIES, |words| questions::steps(RAISE, words)),
+        "lower" => parse_request(rest, NO_RETRIES, |words| questions::steps(LOWER, words)),
         "schedule" => parse_schedule(rest),
         "search" => parse_search(rest),
         _ => Err(format!("there is no command `{command}`")),
     }
 }
 
+fn parse_help(arguments: &[String]) -> Result<Task, String> {
+    match arguments {
+        [] => Ok(Task::Print(help::overview())),
+        [command] => match help::of(command) {
+            Some(text) => Ok(Task::Print(text)),
+            None => Err(format!("there is no command `{command}`")),
+        },
+        [_, word, ..] => Err(unwanted(word)),
+    }
+}
+
 fn parse_rows(arguments: &[String]) -> Result<Task, String> {
     match arguments {
-        [] => Ok(Task::Rows),
+        [] => Ok(Task::Print(rows::table())),
         [word, ..] => Err(unwanted(word)),
     }
 }
 
 fn parse_board(arguments: &[String]) -> Result<Task, String> {
     let options = Options::parse(arguments, &BOARD)?;
-    if let Some(word) = options.words.first() {
+    if let Some(word) = options.words().first() {
         return Err(unwanted(word));
     }
     let measured = options
         .values_of("--measure")
         .map(values::parse_measurement);
     Ok(Task::Board(Settings {
-        id: parse_id(options.needed("--id")?)?,
+        id: boards::parse_id(options.needed("--id")?)?,
         password: options.needed("--password")?.as_bytes().to_vec(),
         mode: parse_mode(options.needed("--mode")?)?,
         listen: parse_listen(options.value("--listen")?.unwrap_or(LISTEN))?,
@@ -104,124 +127,125 @@ fn parse_board(arguments: &[String]) -> Result<Task, String> {
 fn parse_request(
     arguments: &[String],
     retries: u32,
-    command: impl Fn(&str) -> Result<Command, String>,
+    commands: impl Fn(&[&str]) -> Result<Vec<Command>, String>,
 ) -> Result<Task, String> {
     let options = Options::parse(arguments, &REQUEST)?;
-    if options.words.is_empty() {
+    if options.words().is_empty() {
         return Err(String::from("there is no row"));
     }
-    let commands = options.words.iter().map(|word| command(word));
-    let commands = commands.collect::<Result<_, _>>()?;
-    Ok(Task::Request(request(&options, commands, retries)?))
+    let commands = commands(&options.words())?;
+    request(&options, Kind::Rows, commands, retries)
 }
 
 fn parse_schedule(arguments: &[String]) -> Result<Task, String> {
     let options = Options::parse(arguments, &REQUEST)?;
-    let words: Vec<&str> = options.words.iter().map(String::as_str).collect();
-    let (commands, retries) = match words[..] {
-        ["get", ref words @ ..] => (reads(words)?, RETRIES),
-        ["set", ref words @ ..] => (vec![entry_write(words)?], NO_RETRIES),
+    let (commands, retries) = match options.words()[..] {
+        ["get", ref words @ ..] => (questions::entry_reads(words)?, RETRIES),
+        ["set", ref words @ ..] => (questions::entry_write(words)?, NO_RETRIES),
         _ => return Err(String::from("schedule takes get or set")),
     };
-    let request = request(&options, commands, retries)?;
-    if words.len() == 1 && request.raw.is_some() {
-        return Err(String::from(
-            "--raw keeps one response, and the week has more: name a day",
-        ));
+    request(&options, Kind::Schedule, commands, retries)
+}
+
+/// A search asks every board for its ID and its unit type.
+fn parse_search(arguments: &[String]) -> Result<Task, String> {
+    let options = Options::parse(arguments, &SEARCH)?;
+    if let Some(word) = options.words().first() {
+        return Err(unwanted(word));
     }
-    Ok(Task::Schedule(request))
+    let commands = vec![questions::read(0x007C), questions::read(0x00B9)];
+    request(&options, Kind::Search, commands, RETRIES)
 }
 
-fn reads(words: &[&str]) -> Result<Vec<Command>, String> {
-    let places = entry::parse_places(words)?;
-    Ok(places.into_iter().map(schedule::read_of).collect())
-}
-
-fn entry_write(words: &[&str]) -> Result<Command, String> {
-    match *words {
-        [day, period, speed, temperature, end] => {
-            let entry = Entry::parse([day, period, speed, temperature, end])?;
-            Ok(schedule::write_of(&entry))
-        }
-        _ => Err(String::from(
-            "schedule set takes DAY PERIOD SPEED TEMPERATURE HH:MM",
-        )),
-    }
-}
-
-/// A request that names its board.
-fn request(options: &Options, commands: Vec<Command>, retries: u32) -> Result<Request, String> {
-    Ok(Request {
-        host: options.needed("--host")?.to_string(),
-        id: parse_id(options.needed("--id")?)?,
-        password: options.needed("--password")?.as_bytes().to_vec(),
+fn request(
+    options: &Options,
+    kind: Kind,
+    commands: Vec<Command>,
+    retries: u32,
+) -> Result<Task, String> {
+    let (units, warning) = match kind {
+        Kind::Search => (vec![searched(options)?], None),
+        _ => units(options)?,
+    };
+    let request = Request {
+        units,
+        warning,
+        kind,
         commands,
         limit: parse_limit(options.value("-t")?)?,
         retries: parse_retries(options.value("-r")?, retries)?,
         dump: options.has("-d"),
-        raw: options.value("--raw")?.map(PathBuf::from),
-    })
+        format: parse_format(options.value("--format")?, kind)?,
+        raw: options.value("--raw")?.map(parse_raw),
+    };
+    request.check()?;
+    Ok(Task::Request(request))
 }
 
-/// A search asks every board for its ID and its unit type. Its password is not compared, so it has none.
-fn parse_search(arguments: &[String]) -> Result<Task, String> {
-    let options = Options::parse(arguments, &SEARCH)?;
-    if let Some(word) = options.words.first() {
-        return Err(unwanted(word));
-    }
-    let read = |number| Command {
-        function: 1,
-        number,
-        value: Vec::new(),
-    };
-    Ok(Task::Request(Request {
+/// What a search asks. Its password is not compared, so it has none.
+fn searched(options: &Options) -> Result<Unit, String> {
+    Ok(Unit {
+        name: None,
         host: options.needed("--host")?.to_string(),
         id: DEFAULT_ID.to_vec(),
         password: Vec::new(),
-        commands: vec![read(0x007C), read(0x00B9)],
-        limit: parse_limit(options.value("-t")?)?,
-        retries: parse_retries(options.value("-r")?, RETRIES)?,
-        dump: options.has("-d"),
-        raw: options.value("--raw")?.map(PathBuf::from),
-    }))
+    })
+}
+
+/// The boards that the options name, and a warning about their file.
+fn units(options: &Options) -> Result<(Vec<Unit>, Option<String>), String> {
+    let names: Vec<&str> = options.values_of("--board").collect();
+    let Some(path) = options.value("--boards")? else {
+        return match names[..] {
+            [] => Ok((vec![named(options)?], None)),
+            _ => Err(String::from("--board needs --boards FILE")),
+        };
+    };
+    if names.is_empty() {
+        return Err(String::from("--boards needs --board NAME, or --board all"));
+    }
+    for name in ["--host", "--id", "--password"] {
+        if options.value(name)?.is_some() {
+            return Err(format!(
+                "{name} is not wanted: --board has it from the file"
+            ));
+        }
+    }
+    let (units, warning) = boards::load(path)?;
+    Ok((boards::choose(&units, &names)?, warning))
+}
+
+fn named(options: &Options) -> Result<Unit, String> {
+    let host = options.needed("--host")?;
+    target::check(host)?;
+    Ok(Unit {
+        name: None,
+        host: host.to_string(),
+        id: boards::parse_id(options.needed("--id")?)?,
+        password: options.needed("--password")?.as_bytes().to_vec(),
+    })
 }
 
 fn unwanted(word: &str) -> String {
     format!("`{word}` is not wanted here")
 }
 
-fn command_without_value(function: u8, word: &str) -> Result<Command, String> {
-    let number = rows::parse_number(word)?;
-    if number == entry::NUMBER {
-        return Err(String::from(entry::HINT));
-    }
-    Ok(Command {
-        function,
-        number,
-        value: Vec::new(),
-    })
-}
-
-/// A write with a report, so that the listing shows what the row holds after it.
-fn command_with_value(word: &str) -> Result<Command, String> {
-    let (number, value) = values::parse_assignment(word)?;
-    Ok(Command {
-        function: 3,
-        number,
-        value,
-    })
-}
-
-/// 16 characters, or 32 hex digits.
-fn parse_id(text: &str) -> Result<Vec<u8>, String> {
-    if text.len() == ID_SIZE && text.bytes().all(|byte| byte.is_ascii_graphic()) {
-        return Ok(text.as_bytes().to_vec());
-    }
-    match hex::parse(text) {
-        Some(id) if id.len() == ID_SIZE => Ok(id),
-        _ => Err(format!(
-            "the ID `{text}` is neither {ID_SIZE} characters nor 32 hex digits"
+fn parse_format(text: Option<&str>, kind: Kind) -> Result<Format, String> {
+    match text {
+        None | Some("listing") if kind == Kind::Schedule => Ok(Format::Schedule),
+        None | Some("listing") => Ok(Format::Listing),
+        Some("table") => Ok(Format::Table),
+        Some("json") => Ok(Format::Json),
+        Some(text) => Err(format!(
+            "--format takes listing, table or json, not `{text}`"
         )),
+    }
+}
+
+fn parse_raw(text: &str) -> Raw {
+    match text {
+        "-" => Raw::Output,
+        path => Raw::File(PathBuf::from(path)),
     }
 }
 
@@ -265,6 +289,7 @@ fn parse_retries(text: Option<&str>, without: u32) -> Result<u32, String> {
 #[cfg(test)]
 mod tests {
     use super::*;
+    use crate::entry;
 
     const IDENTITY: &str = "--host h --id 002D6E1B34565815 --password 1111";
 
@@ -281,11 +306,15 @@ mod tests {
     }
 
     #[test]
-    fn requests_have_their_function_and_their_retries() {
-        for (command, function, retries) in [("get", 1, 5), ("raise", 4, 0), ("lower", 5, 0)] {
+    fn requests_have_their_functions_and_their_retries() {
+        for (command, functions, retries) in [
+            ("get", &[1, 1][..], 5),
+            ("raise", &[1, 4, 1, 4], 0),
+            ("lower", &[1, 5, 1, 5], 0),
+        ] {
             let request = request(&format!("{command} {IDENTITY} speed-mode 0x0063"));
-            let functions: Vec<u8> = request.commands.iter().map(|one| one.function).collect();
-            assert_eq!(functions, [function; 2]);
+            let asked: Vec<u8> = request.commands.iter().map(|one| one.function).collect();
+            assert_eq!(asked, functions);
             assert_eq!((request.retries, request.limit), (retries, LIMIT));
         }
         let set = request(&format!("set {IDENTITY} -t 0.5 -r 2 0x0063=70"));
@@ -298,7 +327,7 @@ mod tests {
 
     fn schedule(text: &str) -> Request {
         match parsed(&format!("schedule {IDENTITY} {text}")) {
-            Ok(Task::Schedule(request)) => request,
+            Ok(Task::Request(request)) => request,
             other => panic!("{text}: {other:?}"),
         }
     }
@@ -367,28 +396,9 @@ mod tests {
         let search = request("search --host h");
         let numbers: Vec<u16> = search.commands.iter().map(|one| one.number).collect();
         assert_eq!(numbers, [0x007C, 0x00B9]);
-        assert_eq!(
-            (search.host.as_str(), &search.id[..]),
-            ("h", &DEFAULT_ID[..])
-        );
-    }
-
-    #[test]
-    fn ids_are_characters_or_digits() {
-        assert_eq!(
-            parse_id("002D6E1B34565815"),
-            Ok(b"002D6E1B34565815".to_vec())
-        );
-        assert_eq!(parse_id(&"0a".repeat(16)), Ok(vec![10; 16]));
-        for bad in [
-            "",
-            "002D6E1B3456581",
-            "002D6E1B345658155",
-            "00000000\u{e9}000000",
-            "a b d e f g h i ",
-        ] {
-            assert!(parse_id(bad).is_err(), "{bad}");
-        }
+        let unit = &search.units[0];
+        assert_eq!((unit.host.as_str(), &unit.id[..]), ("h", &DEFAULT_ID[..]));
+        assert!(unit.password.is_empty() && search.units.len() == 1);
     }
 
     #[test]
@@ -423,6 +433,94 @@ mod tests {
         ] {
             assert!(parsed(bad).is_err(), "{bad}");
         }
-        assert!(matches!(parsed("get --help"), Ok(Task::Help)));
+    }
+
+    #[test]
+    fn help_is_of_a_command_or_of_all() {
+        let printed = |text: &str| match parsed(text) {
+            Ok(Task::Print(text)) => text,
+            other => panic!("{text}: {other:?}"),
+        };
+        assert_eq!(printed("get --help"), printed("help get"));
+        assert_eq!(printed("lower -h"), printed("help lower"));
+        for text in ["--help", "-h", "help", "fetch --help"] {
+            assert_eq!(printed(text), help::overview());
+        }
+        assert!(parsed("help fetch").is_err() && parsed("help get set").is_err());
+        let set = request(&format!("set {IDENTITY} -- wifi-name=--help"));
+        assert_eq!(set.commands[0].value, b"--help");
+        assert!(parsed(&format!("get {IDENTITY} -- --help")).is_err());
+    }
+
+    #[test]
+    fn broadcast_is_for_search_alone() {
+        let identity = "--id 002D6E1B34565815 --password 1111";
+        for host in ["broadcast", "broadcast:4000"] {
+            for command in [
+                "get 0x0001",
+                "set 0x0001=1",
+                "raise 0x0002",
+                "lower 0x0002",
+                "schedule get",
+                "schedule set mon 1 1 0 08:00",
+            ] {
+                let asked = parsed(&format!("{command} --host {host} {identity}"));
+                assert!(asked.expect_err(command).contains("for search alone"));
+            }
+            assert!(parsed(&format!("search --host {host}")).is_ok());
+            assert!(parsed(&format!("search --host {host} --raw file")).is_err());
+        }
+    }
+
+    #[test]
+    fn formats_and_raw_bytes() {
+        for (text, format) in [
+            ("get 1", Format::Listing),
+            ("get --format listing 0001", Format::Listing),
+            ("get --format table 0001", Format::Table),
+            ("get --format=json 0001", Format::Json),
+            ("schedule get", Format::Schedule),
+            ("schedule get --format listing", Format::Schedule),
+            ("schedule get --format json", Format::Json),
+        ] {
+            let text = text.replace("get 1", "get 0001");
+            assert_eq!(request(&format!("{text} {IDENTITY}")).format, format);
+        }
+        assert!(parsed(&format!("get --format csv 0001 {IDENTITY}")).is_err());
+        let raw = |text: &str| request(&format!("get 0001 {IDENTITY} --raw {text}")).raw;
+        assert_eq!(raw("-"), Some(Raw::Output));
+        assert_eq!(raw("file"), Some(Raw::File(PathBuf::from("file"))));
+    }
+
+    #[test]
+    fn changes_are_not_split() {
+        let set = |count| {
+            let words = "0x0063=70 ".repeat(count);
+            parsed(&format!("set {IDENTITY} {words}"))
+        };
+        assert!(set(45).is_ok());
+        assert!(set(46)
+            .expect_err("too many")
+            .contains("do not fit one packet"));
+        let raise = |count| parsed(&format!("raise {IDENTITY} {}", "0002 ".repeat(count)));
+        assert!(raise(38).is_ok() && raise(39).is_err());
+        assert!(parsed(&format!("get {IDENTITY} {}", "0002 ".repeat(1000))).is_ok());
+        let raw = |count| parsed(&format!("get {IDENTITY} --raw f {}", "0002 ".repeat(count)));
+        assert!(raw(114).is_ok() && raw(115).is_err());
+    }
+
+    #[test]
+    fn boards_are_named_by_options_or_a_file() {
+        for bad in [
+            "get --board a 0001",
+            "get --boards f 0001",
+            "get --boards f --board a --host h 0001",
+            "get --boards f --board a --id 002D6E1B34565815 0001",
+            "get --boards f --board a --password 1111 0001",
+            "get --boards no/such/file --board a 0001",
+            "search --boards f --board a",
+        ] {
+            assert!(parsed(bad).is_err(), "{bad}");
+        }
     }
 }

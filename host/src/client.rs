@@ -1,105 +1,88 @@
-//! A request on its way to a board, and its response as a listing.
+//! Asks the boards of a request, side by side, and shows what they answer.
 
-use std::fs;
-use std::io::{self, Write};
-use std::net::SocketAddr;
-use std::path::PathBuf;
-use std::time::Duration;
+use std::sync::mpsc;
+use std::thread;
 
-use crate::dump::dump;
-use crate::exchange::{Exchange, Response};
-use crate::ffi::{self, Command};
+use crate::boards::Unit;
+use crate::exchange::{Exchange, Failure, Response};
+use crate::ffi::Command;
+use crate::outcome::{self, Outcome};
+use crate::output;
+use crate::packing;
+use crate::request::{Kind, Request};
 use crate::target::{self, Target};
 
-#[derive(Debug)]
-pub struct Request {
-    pub host: String,
-    pub id: Vec<u8>,
-    pub password: Vec<u8>,
-    pub commands: Vec<Command>,
-    pub limit: Duration,
-    pub retries: u32,
-    pub dump: bool,
-    /// The file that keeps the response's bytes.
-    pub raw: Option<PathBuf>,
-}
-
-/// The whole request in one packet.
-pub fn run(request: &Request) -> Result<(), String> {
-    let packet = write(request, &request.commands)?;
-    let target = find(request)?;
-    let responses = send(request, target, &packet)?;
-    for response in &responses {
-        if target.every {
-            let _ = writeln!(io::stderr(), "response from {}", response.sender);
+/// Asks every board and shows each answer when it is there; whether all went well.
+pub fn run(request: &Request) -> bool {
+    if let Some(warning) = &request.warning {
+        output::warn(warning);
+    }
+    thread::scope(|scope| {
+        let (sender, receiver) = mpsc::channel();
+        for unit in &request.units {
+            let sender = sender.clone();
+            let ask = move || sender.send((unit, ask(request, unit)));
+            if let Err(error) = thread::Builder::new().spawn_scoped(scope, ask) {
+                output::tell(unit, &format!("cannot be asked: {error}"));
+            }
         }
-        show(&listing(response)?)?;
+        drop(sender);
+        let shown = receiver
+            .iter()
+            .filter(|(unit, outcome)| output::show(request, unit, outcome));
+        shown.count() == request.units.len()
+    })
+}
+
+fn ask(request: &Request, unit: &Unit) -> Result<Outcome, String> {
+    let target = match request.kind {
+        Kind::Search => target::resolve_any(&unit.host)?,
+        Kind::Rows | Kind::Schedule => target::resolve(&unit.host)?,
+    };
+    let mut answers: Vec<(&[Command], Response)> = Vec::new();
+    for commands in packing::pack(&request.commands, &unit.password) {
+        let is_first = answers.is_empty();
+        let responses = exchange(request, unit, target, commands);
+        let responses = responses.map_err(|failure| explain(request, failure, is_first))?;
+        answers.extend(responses.into_iter().map(|response| (commands, response)));
     }
-    keep(request, &responses)
+    Ok(outcome::of(request, unit, target, answers))
 }
 
-/// The packet of some of the commands.
-pub fn write(request: &Request, commands: &[Command]) -> Result<Vec<u8>, String> {
-    let packet = ffi::write(&request.id, &request.password, commands);
-    packet.map_err(|refusal| format!("the request is {refusal}"))
-}
-
-pub fn find(request: &Request) -> Result<Target, String> {
-    let target = target::resolve(&request.host)?;
-    if target.every && request.raw.is_some() {
-        return Err(String::from(
-            "--raw keeps one response, so it needs one host",
-        ));
-    }
-    Ok(target)
-}
-
-/// The responses to a packet.
-pub fn send(request: &Request, target: Target, packet: &[u8]) -> Result<Vec<Response>, String> {
+fn exchange(
+    request: &Request,
+    unit: &Unit,
+    target: Target,
+    commands: &[Command],
+) -> Result<Vec<Response>, Failure> {
     let exchange = Exchange {
         target,
-        id: &request.id,
-        password: &request.password,
+        id: &unit.id,
+        password: &unit.password,
         limit: request.limit,
         retries: request.retries,
     };
-    exchange.run(packet, |what, address, bytes| {
+    exchange.run(commands, |what, address, bytes| {
         if request.dump {
-            show_packet(what, address, bytes);
+            output::show_packet(what, address, bytes);
         }
     })
 }
 
-pub fn listing(response: &Response) -> Result<String, String> {
-    let listing = ffi::list(&response.bytes);
-    let listing = listing.map_err(|refusal| format!("the listing is {refusal}"))?;
-    Ok(String::from_utf8_lossy(&listing).into_owned())
-}
-
-/// On standard output.
-pub fn show(text: &str) -> Result<(), String> {
-    let mut output = io::stdout().lock();
-    let written = output
-        .write_all(text.as_bytes())
-        .and_then(|()| output.flush());
-    written.map_err(|error| format!("cannot write the listing: {error}"))
-}
-
-/// Keeps the response's bytes where the request wants them.
-pub fn keep(request: &Request, responses: &[Response]) -> Result<(), String> {
-    let (Some(path), Some(response)) = (&request.raw, responses.first()) else {
-        return Ok(());
+/// A board that has answered knows the ID and the password, and a search bears none.
+fn explain(request: &Request, failure: Failure, is_first: bool) -> String {
+    let may_be_wrong = is_first && request.kind != Kind::Search;
+    let hint = match may_be_wrong {
+        true => " (a wrong ID or password gets none either)",
+        false => "",
     };
-    let kept = fs::write(path, &response.bytes);
-    kept.map_err(|error| format!("cannot keep the response in {}: {error}", path.display()))
-}
-
-fn show_packet(what: &str, address: SocketAddr, bytes: &[u8]) {
-    let preposition = if what == "sent" { "to" } else { "from" };
-    let length = bytes.len();
-    let _ = write!(
-        io::stderr(),
-        "{what} {length} bytes {preposition} {address}\n{}",
-        dump(bytes)
-    );
+    let doubt = match request.is_change() {
+        true => "; the change may have been made",
+        false => "",
+    };
+    match failure {
+        Failure::Silence(text) => format!("{text}{hint}{doubt}"),
+        Failure::Ignored(text) => format!("{text}{doubt}"),
+        Failure::Other(text) => text,
+    }
 }

@@ -1,13 +1,10 @@
-//! The program: what its arguments ask for is done, and what goes wrong is one line on standard error.
+//! The program: what its arguments ask for is done, and what goes wrong is a line on standard error.
 
 use std::ffi::OsString;
-use std::io::{self, Write};
 use std::process::ExitCode;
 
 use crate::arguments::{self, Task};
-use crate::{client, rows, schedule, server, signals};
-
-const HELP: &str = include_str!("help.txt");
+use crate::{client, output, server, signals};
 
 const FAILED: u8 = 1;
 const BAD_ARGUMENTS: u8 = 2;
@@ -18,7 +15,19 @@ pub fn run(arguments: impl Iterator<Item = OsString>) -> ExitCode {
         Ok(task) => task,
         Err(error) => return fail(BAD_ARGUMENTS, &format!("{error} (udgornwy --help)")),
     };
-    match perform(&task) {
+    let done = match task {
+        Task::Print(text) => output::put(text.as_bytes()),
+        Task::Request(request) => match client::run(&request) {
+            true => Ok(()),
+            // It has said why.
+            false => return ExitCode::from(FAILED),
+        },
+        Task::Board(settings) => {
+            signals::catch();
+            server::run(&settings, signals::came)
+        }
+    };
+    match done {
         Ok(()) => ExitCode::SUCCESS,
         Err(error) => fail(FAILED, &error),
     }
@@ -31,25 +40,7 @@ fn texts(arguments: impl Iterator<Item = OsString>) -> Result<Vec<String>, Strin
         .map_err(|argument| format!("{argument:?} is no text"))
 }
 
-fn perform(task: &Task) -> Result<(), String> {
-    match task {
-        Task::Help => print(HELP),
-        Task::Rows => print(&rows::table()),
-        Task::Request(request) => client::run(request),
-        Task::Schedule(request) => schedule::run(request),
-        Task::Board(settings) => {
-            signals::catch();
-            server::run(settings, signals::came)
-        }
-    }
-}
-
-fn print(text: &str) -> Result<(), String> {
-    let written = io::stdout().write_all(text.as_bytes());
-    written.map_err(|error| format!("cannot write: {error}"))
-}
-
 fn fail(status: u8, error: &str) -> ExitCode {
-    let _ = writeln!(io::stderr(), "udgornwy: {error}");
+    output::warn(error);
     ExitCode::from(status)
 }

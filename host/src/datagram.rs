@@ -15,14 +15,19 @@ pub fn receive(socket: &UdpSocket, datagram: &mut [u8]) -> io::Result<Option<(us
     }
 }
 
-/// The time is up, a signal came, or an earlier packet found nobody there.
+/// An earlier packet found nobody there, which is no matter to a board.
 fn is_passing(kind: ErrorKind) -> bool {
+    is_wait(kind)
+        || matches!(
+            kind,
+            ErrorKind::ConnectionRefused | ErrorKind::ConnectionReset
+        )
+}
+
+/// The time is up, or a signal came.
+pub fn is_wait(kind: ErrorKind) -> bool {
     matches!(
         kind,
-        ErrorKind::WouldBlock
-            | ErrorKind::TimedOut
-            | ErrorKind::Interrupted
-            | ErrorKind::ConnectionRefused
-            | ErrorKind::ConnectionReset
+        ErrorKind::WouldBlock | ErrorKind::TimedOut | ErrorKind::Interrupted
     )
 }

@@ -59,6 +59,14 @@ pub struct Place {
 }
 
 impl Place {
+    /// The place that begins a value.
+    pub fn of(value: &[u8]) -> Option<Place> {
+        match *value {
+            [day, period, ..] => Some(Place { day, period }),
+            _ => None,
+        }
+    }
+
     /// Where the entry stands that a command for this place reports.
     pub fn reported(self) -> Place {
         let group = GROUPS.iter().find(|group| group.number == self.day);
@@ -75,9 +83,26 @@ impl fmt::Display for Place {
     }
 }
 
+/// The name of a day, 1 being Monday.
+pub fn day_name(day: u8) -> Option<&'static str> {
+    let mut named = (1..).zip(DAYS);
+    named
+        .find(|(number, _)| *number == day)
+        .map(|(_, name)| name)
+}
+
+pub fn day_number(name: &str) -> Option<u8> {
+    let mut named = (1..).zip(DAYS);
+    named
+        .find(|(_, known)| *known == name)
+        .map(|(number, _)| number)
+}
+
+/// The name of a day or of a group.
 fn name_of(day: u8) -> String {
-    let named = (1..).zip(DAYS).find(|(number, _)| *number == day);
-    named.map_or_else(|| format!("day {day}"), |(_, name)| name.to_string())
+    let group = GROUPS.iter().find(|group| group.number == day);
+    let name = day_name(day).or(group.map(|group| group.names[0]));
+    name.map_or_else(|| format!("day {day}"), String::from)
 }
 
 #[derive(Clone, Copy, Debug, PartialEq, Eq)]
@@ -111,6 +136,19 @@ impl Entry {
             minute,
             hour,
         })
+    }
+
+    /// The words that `parse` takes.
+    pub fn words(&self) -> String {
+        let Entry {
+            place: Place { day, period },
+            speed,
+            temperature,
+            minute,
+            hour,
+        } = *self;
+        let day = name_of(day);
+        format!("{day} {period} {speed} {temperature} {hour:02}:{minute:02}")
     }
 
     /// The value that a write bears.
@@ -160,18 +198,21 @@ impl fmt::Display for Entry {
 
 /// The entries that `[DAY [PERIOD]]` names, in the schedule's order.
 pub fn parse_places(words: &[&str]) -> Result<Vec<Place>, String> {
-    let (days, periods) = match words {
-        [] => (1..=7, PERIODS),
-        [day] => (only(parse_day(day)?), PERIODS),
-        [day, period] => (only(parse_day(day)?), only(parse_period(period)?)),
+    let (day, period) = match words {
+        [] => (None, None),
+        [day] => (Some(parse_day(day)?), None),
+        [day, period] => (Some(parse_day(day)?), Some(parse_period(period)?)),
         _ => return Err(String::from("schedule get takes DAY and PERIOD at most")),
     };
-    let places = days.flat_map(|day| periods.clone().map(move |period| Place { day, period }));
-    Ok(places.collect())
+    let is_meant = |place: &Place| {
+        day.is_none_or(|day| day == place.day) && period.is_none_or(|period| period == place.period)
+    };
+    Ok(places().filter(is_meant).collect())
 }
 
-fn only(number: u8) -> RangeInclusive<u8> {
-    number..=number
+/// The whole schedule's.
+pub fn places() -> impl Iterator<Item = Place> {
+    (1..=7).flat_map(|day| PERIODS.map(move |period| Place { day, period }))
 }
 
 /// A day's number: its name, the first three letters of it, or the number.
@@ -261,7 +302,9 @@ mod tests {
             let entry = parsed(text).expect(text);
             assert_eq!(entry.value(), value, "{text}");
             assert_eq!(Entry::of(&value), Some(entry));
+            assert_eq!(Place::of(&value), Some(entry.place));
         }
+        assert_eq!(Place::of(&[1]), None);
         assert_eq!(Entry::of(&[1; 5]), None);
         assert_eq!(Entry::of(&[1; 7]), None);
     }
@@ -325,8 +368,20 @@ mod tests {
 
     #[test]
     fn places_have_words() {
-        for (day, words) in [(7, "sunday, period 2"), (0, "day 0, period 2")] {
+        for (day, words) in [
+            (7, "sunday, period 2"),
+            (0, "every-day, period 2"),
+            (9, "weekend, period 2"),
+            (10, "day 10, period 2"),
+        ] {
             assert_eq!(Place { day, period: 2 }.to_string(), words);
+        }
+    }
+
+    #[test]
+    fn an_entry_has_the_words_that_set_takes() {
+        for words in ["monday 1 3 21 08:30", "sunday 4 0 0 00:00"] {
+            assert_eq!(parsed(words).expect(words).words(), words);
         }
     }
 

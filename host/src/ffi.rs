@@ -46,12 +46,34 @@ pub enum Answer {
     Response(Vec<u8>),
 }
 
+/// The functions of a command.
+pub const READ: u8 = 1;
+/// A write without a report.
+pub const SILENT_WRITE: u8 = 2;
+pub const WRITE: u8 = 3;
+pub const RAISE: u8 = 4;
+pub const LOWER: u8 = 5;
+
 /// One command of a request.
 #[derive(Clone, Debug, PartialEq, Eq)]
 pub struct Command {
     pub function: u8,
     pub number: u16,
     pub value: Vec<u8>,
+}
+
+impl Command {
+    pub fn new(function: u8, number: u16, value: &[u8]) -> Command {
+        Command {
+            function,
+            number,
+            value: value.to_vec(),
+        }
+    }
+
+    pub fn is_step(&self) -> bool {
+        matches!(self.function, RAISE | LOWER)
+    }
 }
 
 extern "C" {

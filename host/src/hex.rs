@@ -8,6 +8,11 @@ pub fn parse(text: &str) -> Option<Vec<u8>> {
     text.as_bytes().chunks(2).map(parse_byte).collect()
 }
 
+/// The digits of some bytes, uppercase.
+pub fn digits(bytes: &[u8]) -> String {
+    bytes.iter().map(|byte| format!("{byte:02X}")).collect()
+}
+
 fn parse_byte(digits: &[u8]) -> Option<u8> {
     digits
         .iter()
@@ -30,6 +35,7 @@ mod tests {
     #[test]
     fn pairs_of_digits_are_bytes() {
         assert_eq!(parse("00cEfF"), Some(vec![0x00, 0xCE, 0xFF]));
+        assert_eq!(digits(&[0x00, 0xCE, 0xFF]), "00CEFF");
         for bad in ["", "0", "0x00", "0g", " 00", "00 00", "0\u{e9}", "\u{e9}"] {
             assert_eq!(parse(bad), None, "{bad}");
         }

@@ -7,11 +7,14 @@ pub struct Form {
     pub flags: &'static [&'static str],
 }
 
+/// Behind it everything is a word.
+pub const END: &str = "--";
+
 pub struct Options {
     values: Vec<(String, String)>,
     flags: Vec<String>,
     /// What is no option, in order.
-    pub words: Vec<String>,
+    words: Vec<String>,
 }
 
 impl Options {
@@ -23,6 +26,10 @@ impl Options {
         };
         let mut arguments = arguments.iter();
         while let Some(argument) = arguments.next() {
+            if argument == END {
+                options.words.extend(arguments.cloned());
+                break;
+            }
             if !argument.starts_with('-') {
                 options.words.push(argument.clone());
                 continue;
@@ -39,6 +46,10 @@ impl Options {
             }
         }
         Ok(options)
+    }
+
+    pub fn words(&self) -> Vec<&str> {
+        self.words.iter().map(String::as_str).collect()
     }
 
     /// The value of an option that may be given once.
@@ -92,10 +103,17 @@ mod tests {
     #[test]
     fn options_and_words_may_be_mixed() {
         let options = parsed("a --id=x=y -d b=c -t -1").expect("these are options");
-        assert_eq!(options.words, ["a", "b=c"]);
+        assert_eq!(options.words(), ["a", "b=c"]);
         assert_eq!(options.needed("--id"), Ok("x=y"));
         assert_eq!(options.value("-t"), Ok(Some("-1")));
         assert!(options.has("-d") && !options.has("-t"));
+    }
+
+    #[test]
+    fn behind_two_dashes_everything_is_a_word() {
+        let options = parsed("a -d -- -t -- --id=x").expect("options and words");
+        assert_eq!(options.words(), ["a", "-t", "--", "--id=x"]);
+        assert!(options.has("-d"));
     }
 
     #[test]

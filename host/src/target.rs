@@ -15,8 +15,30 @@ pub struct Target {
     pub every: bool,
 }
 
-/// `HOST` or `HOST:PORT`; an IPv6 address with a port stands in brackets.
+/// Whether a text means every board on the network.
+pub fn is_broadcast(text: &str) -> bool {
+    split(text).is_ok_and(|(host, _)| host == BROADCAST)
+}
+
+/// Whether a text has the form of one host.
+pub fn check(text: &str) -> Result<(), String> {
+    match split(text)? {
+        (BROADCAST, _) => Err(format!(
+            "`{BROADCAST}` is for search alone: the password would go to everyone"
+        )),
+        ("", _) => Err(String::from("there is no host")),
+        _ => Ok(()),
+    }
+}
+
+/// One host: `HOST` or `HOST:PORT`; an IPv6 address with a port stands in brackets.
 pub fn resolve(text: &str) -> Result<Target, String> {
+    check(text)?;
+    resolve_any(text)
+}
+
+/// One host, or every board.
+pub fn resolve_any(text: &str) -> Result<Target, String> {
     let (host, port) = split(text)?;
     if host == BROADCAST {
         return Ok(Target {
@@ -34,12 +56,19 @@ pub fn resolve(text: &str) -> Result<Target, String> {
         .find(|address| address.is_ipv4())
         .or(addresses.first());
     match address {
+        Some(address) if is_several(address.ip()) => {
+            Err(format!("{address} is the address of several hosts"))
+        }
         Some(address) => Ok(Target {
             address: *address,
             every: false,
         }),
         None => Err(format!("host `{host}` has no address")),
     }
+}
+
+fn is_several(address: IpAddr) -> bool {
+    address.is_multicast() || address == IpAddr::V4(Ipv4Addr::BROADCAST)
 }
 
 fn split(text: &str) -> Result<(&str, u16), String> {
@@ -74,7 +103,9 @@ mod tests {
             ("broadcast:5000", "255.255.255.255:5000", true),
         ] {
             let address = address.parse().expect("an address");
-            assert_eq!(resolve(text), Ok(Target { address, every }), "{text}");
+            let target = Target { address, every };
+            assert_eq!(resolve_any(text), Ok(target), "{text}");
+            assert_eq!(resolve(text).ok(), (!every).then_some(target), "{text}");
         }
         for bad in [
             "127.0.0.1:",
@@ -84,6 +115,21 @@ mod tests {
             "",
         ] {
             assert!(resolve(bad).is_err(), "{bad}");
+            assert!(check(bad).is_err(), "{bad}");
+        }
+    }
+
+    /// A password is sent to one host.
+    #[test]
+    fn several_hosts_are_not_one() {
+        for several in ["255.255.255.255", "224.0.0.1", "[ff02::1]:4000"] {
+            assert!(resolve_any(several).is_err(), "{several}");
+        }
+        for every in ["broadcast", "broadcast:5000"] {
+            assert!(is_broadcast(every) && check(every).is_err());
+        }
+        for one in ["127.0.0.1", "::1", "board.example:5000"] {
+            assert!(!is_broadcast(one) && check(one).is_ok());
         }
     }
 }

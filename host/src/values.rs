@@ -2,10 +2,13 @@
 
 use crate::entry;
 use crate::hex;
-use crate::rows::{self, Size};
+use crate::rows::{self, Access, Row, Size};
 
 /// The longest value that a command can carry.
 const LONGEST: usize = 255;
+
+/// What inverts a switch that can be inverted.
+pub const INVERT: u8 = 2;
 
 /// `ROW=VALUE`: the number, and the value's bytes as a write sends them.
 pub fn parse_assignment(text: &str) -> Result<(u16, Vec<u8>), String> {
@@ -13,11 +16,14 @@ pub fn parse_assignment(text: &str) -> Result<(u16, Vec<u8>), String> {
     Ok((number, parse_value(number, value)?))
 }
 
-/// `NUMBER=HEX`, a measured value. The digits are bytes, so 0x may be left out.
+/// `ROW=VALUE`, a measured value. Rows of two bytes and more also take their bytes without 0x, which no other form looks like.
 pub fn parse_measurement(text: &str) -> Result<(u16, Vec<u8>), String> {
     let (number, value) = split(text)?;
-    let digits = value.strip_prefix("0x").unwrap_or(value);
-    Ok((number, parse_bytes(digits)?))
+    let bytes = hex::parse(value).filter(|bytes| bytes.len() > 1);
+    match (bytes, rows::find(number)) {
+        (Some(bytes), Some(row)) if row.size == Size::Bytes(bytes.len()) => Ok((number, bytes)),
+        _ => Ok((number, parse_value(number, value)?)),
+    }
 }
 
 fn split(text: &str) -> Result<(u16, &str), String> {
@@ -37,7 +43,12 @@ fn parse_value(number: u16, text: &str) -> Result<Vec<u8>, String> {
     if number == entry::NUMBER {
         return Err(String::from(entry::HINT));
     }
-    parse_decimal(number, text)
+    match rows::find(number) {
+        Some(row) => parse_reading(row, text),
+        None => Err(format!(
+            "0x{number:04X} is no row of `udgornwy rows`: write its bytes, like 0x4600"
+        )),
+    }
 }
 
 /// Bytes in stored order, as the listing shows them.
@@ -55,48 +66,51 @@ fn sized(bytes: Vec<u8>) -> Result<Vec<u8>, String> {
     }
 }
 
-/// A decimal number takes the row's size, so only a row of one or two bytes has one.
-fn parse_decimal(number: u16, text: &str) -> Result<Vec<u8>, String> {
-    let digits = !text.is_empty() && text.bytes().all(|byte| byte.is_ascii_digit());
-    if !digits {
-        return Err(format!(
-            "`{text}` is no value: write 70, 0x4600 or text:Home"
-        ));
+fn parse_reading(row: &Row, text: &str) -> Result<Vec<u8>, String> {
+    if row.access == Access::Invert && text == "invert" {
+        return Ok(vec![INVERT]);
     }
-    let size = match rows::find(number).map(|row| row.size) {
-        Some(Size::Bytes(size @ 1..=2)) => size,
-        _ => {
-            return Err(format!(
-                "0x{number:04X} takes no decimal value: write its bytes, like 0x4600"
-            ))
-        }
-    };
-    let too_large = || format!("{text} does not fit the {size} byte(s) of 0x{number:04X}");
-    let value: u16 = text.parse().map_err(|_| too_large())?;
-    let [low, high] = value.to_le_bytes();
-    match (size, high) {
-        (1, 0) => Ok(vec![low]),
-        (1, _) => Err(too_large()),
-        _ => Ok(vec![low, high]),
+    match row.reading.parse(text, *row.size.range().start()) {
+        Some(bytes) => sized(bytes),
+        None => Err(format!(
+            "`{text}` is no value of {}: write {}, or bytes like 0x{}",
+            rows::title(row.number),
+            row.form(),
+            "00".repeat(*row.size.range().start())
+        )),
     }
 }
 
 #[cfg(test)]
 mod tests {
     use super::*;
+    use crate::rows::ROWS;
 
     #[test]
-    fn values_are_decimal_bytes_or_text() {
+    fn values_are_readings_bytes_or_text() {
         for (text, number, value) in [
             ("0x0002=3", 0x02, &[3][..]),
             ("speed-mode=3", 0x02, &[3]),
+            ("unit-on-off=on", 0x01, &[1]),
+            ("unit-on-off=2", 0x01, &[2]),
+            ("unit-on-off=invert", 0x01, &[2]),
             ("minimum-fan-speed=255", 0x36, &[255]),
+            ("minimum-fan-speed=70%", 0x36, &[70]),
+            ("temperature-setpoint-normal=21", 0x18, &[21]),
+            ("temperature-setpoint-timer=ventilation only", 0x0D, &[0]),
             ("0063=70", 0x63, &[70, 0]),
             ("filter-replacement-timer=365", 0x63, &[0x6D, 1]),
             ("0x0063=0x4600", 0x63, &[0x46, 0]),
             ("0x0070=0x0401010a", 0x70, &[4, 1, 1, 10]),
+            ("rtc-calendar=2026-11-16", 0x70, &[16, 1, 11, 26]),
+            ("rtc-time=08:30:00", 0x6F, &[0, 30, 8]),
+            ("wifi-ip-address=192.168.4.1", 0x9C, &[192, 168, 4, 1]),
             ("0x0077=0x01", 0x77, &[1]),
             ("wifi-name=text:a=b c", 0x95, b"a=b c"),
+            ("wifi-name=a=b c", 0x95, b"a=b c"),
+            ("wifi-name=7", 0x95, b"7"),
+            ("wifi-name=0x07", 0x95, &[7]),
+            ("0x0101=0x07", 0x101, &[7]),
         ] {
             assert_eq!(
                 parse_assignment(text),
@@ -122,8 +136,12 @@ mod tests {
             "0x0002=0x0g",
             "0x0077=1",
             "0x0070=1",
-            "0x0095=7",
+            "0x0095=",
             "0x0095=text:",
+            "0x0101=7",
+            "sound-generator=invert",
+            "speed-mode=invert",
+            "temperature-setpoint-normal=21.5",
             "nothing=1",
             "0x0002=99999999999999999999",
         ] {
@@ -135,14 +153,56 @@ mod tests {
     }
 
     #[test]
-    fn measured_values_are_bytes() {
-        assert_eq!(
-            parse_measurement("0x001E=CEFF"),
-            Ok((0x1E, vec![0xCE, 0xFF]))
-        );
-        assert_eq!(parse_measurement("boost-mode=0x10"), Ok((0x06, vec![0x10])));
-        for bad in ["0x001E", "0x001E=", "0x001E=1", "0x001E=-5"] {
+    fn measured_values_are_readings_or_bytes() {
+        for (text, number, value) in [
+            ("0x001E=CEFF", 0x1E, &[0xCE, 0xFF][..]),
+            ("0x001E=1000", 0x1E, &[0x10, 0]),
+            ("intake-air-temperature=-5.0", 0x1F, &[0xCE, 0xFF]),
+            ("intake-air-temperature=sensor missing", 0x1F, &[0, 0x80]),
+            ("boost-mode=0x10", 0x06, &[0x10]),
+            ("boost-mode=01", 0x06, &[1]),
+            ("boost-mode=on", 0x06, &[1]),
+            ("weekly-schedule-temperature=21", 0x74, &[21]),
+            ("0x000B=1h02m03s", 0x0B, &[3, 2, 1]),
+            ("0x000B=030201", 0x0B, &[3, 2, 1]),
+            ("wifi-current-ip-address=10.0.0.7", 0xA3, &[10, 0, 0, 7]),
+        ] {
+            assert_eq!(
+                parse_measurement(text),
+                Ok((number, value.to_vec())),
+                "{text}"
+            );
+        }
+        for bad in [
+            "0x001E",
+            "0x001E=",
+            "0x001E=CEF",
+            "boost-mode=0A",
+            "0x0111=7",
+        ] {
             assert!(parse_measurement(bad).is_err(), "{bad}");
+        }
+    }
+
+    /// What is shown can be written: each byte, in every place of every row.
+    #[test]
+    fn what_is_shown_is_taken() {
+        for row in ROWS.iter().filter(|row| row.number != entry::NUMBER) {
+            for size in [*row.size.range().start(), *row.size.range().end()] {
+                for byte in 0..=255 {
+                    let mut bytes = vec![b'1'; size];
+                    bytes[usize::from(byte) % size] = byte;
+                    let shown = row.reading.show(&bytes).to_string();
+                    let is_escaped = shown.contains('\\');
+                    let is_identity = row.number == 0x007C;
+                    let taken = parse_value(row.number, &shown);
+                    assert!(
+                        is_escaped || is_identity || taken == Ok(bytes),
+                        "{}: {shown}",
+                        row.name
+                    );
+                }
+            }
         }
     }
 }

@@ -213,14 +213,19 @@ fn the_schedule_is_written_by_groups_and_read_by_days() {
 
 #[test]
 fn measured_values_are_there_from_the_start() {
-    let board = Board::start(
-        ID,
-        "client",
-        &["--measure", "0x001F=CEFF", "--measure", "boost-mode=01"],
-    );
-    let answer = Client::of(board.address).ask(&request(ID.as_bytes(), PASSWORD, 1, &[0x1F, 0x06]));
-    let data = [0xFE, 2, 0x1F, 0xCE, 0xFF, 0x06, 1];
-    assert_eq!(answer, response(ID.as_bytes(), PASSWORD, &data));
+    for measured in [
+        ["0x001F=CEFF", "boost-mode=01"],
+        ["0x001F=0xCEFF", "boost-mode=0x01"],
+        ["intake-air-temperature=-5.0", "boost-mode=on"],
+    ] {
+        let [first, second] = measured;
+        let more = ["--measure", first, "--measure", second];
+        let board = Board::start(ID, "client", &more);
+        let read = request(ID.as_bytes(), PASSWORD, 1, &[0x1F, 0x06]);
+        let data = [0xFE, 2, 0x1F, 0xCE, 0xFF, 0x06, 1];
+        let answer = Client::of(board.address).ask(&read);
+        assert_eq!(answer, response(ID.as_bytes(), PASSWORD, &data));
+    }
 }
 
 #[test]
@@ -282,7 +287,7 @@ fn a_board_that_cannot_be_set_up_does_not_start() {
             "the measured value of 0x0001 is refused 30",
         ),
         (
-            start(ID, "", &["--measure", "0x001F=CE"]),
+            start(ID, "", &["--measure", "0x001F=0xCE"]),
             "the measured value of 0x001F is refused 31",
         ),
     ] {

@@ -7,7 +7,7 @@
 use std::fs;
 use std::path::Path;
 use udgornwy::ffi::{self, Answer, Board, Command};
-use udgornwy::hex;
+use udgornwy::hex::{self, digits};
 use udgornwy::refusal::Refusal;
 
 /// The board as the calls so far left it; none where a poke has changed it.
@@ -106,10 +106,6 @@ fn bytes(field: &str) -> Vec<u8> {
         "-" => Vec::new(),
         _ => hex::parse(field).expect("bytes"),
     }
-}
-
-fn digits(bytes: &[u8]) -> String {
-    bytes.iter().map(|byte| format!("{byte:02X}")).collect()
 }
 
 fn parse_number(field: &str) -> u16 {

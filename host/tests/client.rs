@@ -10,7 +10,8 @@ use std::time::Instant;
 use udgornwy::entry::NUMBER;
 use udgornwy::exchange::Exchange;
 use udgornwy::ffi::DEFAULT_ID;
-use udgornwy::rows::{Size, ROWS};
+use udgornwy::questions;
+use udgornwy::rows::ROWS;
 use udgornwy::target::Target;
 
 #[test]
@@ -48,11 +49,8 @@ fn values_are_set_raised_and_lowered() {
         ("raise", &["filter-replacement-timer"], "0x0063,4B00\n"),
         ("lower", &["0063", "0x0002"], "0x0063,4600\n0x0002,01\n"),
         ("set", &["0x0063=0x6D01"], "0x0063,6D01\n"),
-        (
-            "set",
-            &["0x0063=72", "unit-on-off=2"],
-            "0x0063,6D01\n0x0001,00\n",
-        ),
+        ("set", &["unit-on-off=2"], "0x0001,00\n"),
+        ("set", &["unit-on-off=invert"], "0x0001,01\n"),
         ("set", &["wifi-name=text:Home 2"], "0x0095,486F6D652032\n"),
         (
             "get",
@@ -81,10 +79,7 @@ fn every_row_of_the_table_exists_with_its_size() {
                 .strip_prefix(&format!("0x{:04X},", row.number))
                 .expect("the row");
             let length = digits.len() / 2;
-            match row.size {
-                Size::Bytes(size) => assert_eq!(length, size, "{line}"),
-                Size::Text(shortest, _) => assert_eq!(length, shortest, "{line}"),
-            }
+            assert_eq!(length, *row.size.range().start(), "{line}");
         }
     }
 }
@@ -186,31 +181,6 @@ fn the_response_is_found_among_other_packets() {
     assert_eq!(listed, "number,value\n0x0001,01\n");
 }
 
-#[test]
-fn a_response_from_another_sender_is_ignored() {
-    let (asked, other) = (open_socket(), open_socket());
-    let host = asked.local_addr().expect("an address").to_string();
-    let output = thread::scope(|scope| {
-        scope.spawn(|| {
-            let (_, client) = asked.recv_from(&mut [0; 256]).expect("a request");
-            let good = response(ID.as_bytes(), PASSWORD, &[0x01, 1]);
-            other.send_to(&good, client).expect("a packet sent");
-        });
-        ask(
-            &host,
-            (ID, PASSWORD),
-            "get",
-            &["-t", "0.5", "-r", "0", "0x0001"],
-        )
-    });
-    let sender = other.local_addr().expect("an address");
-    failed(
-        &output,
-        1,
-        &format!("packets ignored: 1, the last one from {sender}"),
-    );
-}
-
 /// Where every board may answer, each is heard once, whatever its address.
 #[test]
 fn a_search_hears_several_boards() {
@@ -219,8 +189,9 @@ fn a_search_hears_several_boards() {
         .iter()
         .map(|board| board.local_addr().expect("an address"))
         .collect();
-    let search = request(&DEFAULT_ID, "", 1, &[0x7C]);
-    let answer = response(&DEFAULT_ID, "", &[0x7C, 1]);
+    let search = [questions::read(0xB9)];
+    let answer = response(&DEFAULT_ID, "", &[0xFE, 2, 0xB9, 2, 0]);
+    let other = response(&DEFAULT_ID, "", &[0xB9, 1]);
     let exchange = Exchange {
         target: Target {
             address: addresses[0],
@@ -235,6 +206,7 @@ fn a_search_hears_several_boards() {
         scope.spawn(|| {
             let (_, client) = boards[0].recv_from(&mut [0; 256]).expect("a request");
             for board in boards.iter().chain(&boards) {
+                board.send_to(&other, client).expect("a packet sent");
                 board.send_to(&answer, client).expect("a packet sent");
             }
         });
@@ -254,11 +226,7 @@ fn requests_that_cannot_be_written_are_refused() {
         "the request is refused 42 (",
     );
     let long = format!("0x0095=0x{}", "41".repeat(255));
-    failed(
-        &board.ask("set", &[&long]),
-        1,
-        "the request is refused 43 (",
-    );
+    failed(&board.ask("set", &[&long]), 2, "do not fit one packet");
     failed(
         &ask(&board.host(), (ID, "a*"), "get", &["0x0001"]),
         1,
@@ -268,7 +236,7 @@ fn requests_that_cannot_be_written_are_refused() {
 
 #[test]
 fn bad_arguments_are_one_line() {
-    let host = ["--host", "127.0.0.1:9", "--id", ID, "--password", PASSWORD];
+    let host = ["--host", NOBODY, "--id", ID, "--password", PASSWORD];
     let with = |command, more: &[&'static str]| run(&[&[command], &host[..], more].concat());
     for (output, reason) in [
         (run(&[]), "there is no command"),
@@ -277,8 +245,14 @@ fn bad_arguments_are_one_line() {
         (with("get", &[]), "there is no row"),
         (with("get", &["fan"]), "`fan` is neither a row's name"),
         (with("set", &["0x0001"]), "`0x0001` has no value"),
-        (with("set", &["0x0001=300"]), "300 does not fit"),
-        (with("set", &["0x0070=1"]), "takes no decimal value"),
+        (
+            with("set", &["0x0001=300"]),
+            "`300` is no value of unit-on-off (0x0001): write off|on",
+        ),
+        (
+            with("set", &["0x0070=1"]),
+            "`1` is no value of rtc-calendar",
+        ),
         (with("set", &["0x0077=1"]), "`udgornwy schedule set`"),
         (with("get", &["0x0077"]), "`udgornwy schedule get`"),
         (with("get", &["-t", "0", "0x0001"]), "-t takes"),
@@ -294,10 +268,14 @@ fn bad_arguments_are_one_line() {
 }
 
 #[test]
-fn help_and_rows_are_on_standard_output() {
+fn help_version_and_rows_are_on_standard_output() {
     let help = listing(&run(&["--help"]));
-    assert!(help.contains("udgornwy search") && help.lines().all(|line| line.len() <= 132));
-    assert_eq!(listing(&run(&["get", "--help"])), help);
+    assert!(help.contains("udgornwy search") && help.contains("Exit status"));
+    let get = listing(&run(&["get", "--help"]));
+    assert!(get.starts_with("udgornwy get ") && get.contains("\nExamples\n"));
+    assert_eq!(listing(&run(&["help", "get"])), get);
+    let version = format!("udgornwy {}\n", env!("CARGO_PKG_VERSION"));
+    assert_eq!(listing(&run(&["--version"])), version);
     let rows = listing(&run(&["rows"]));
     assert_eq!(rows.lines().count(), 74);
     assert!(rows.contains("0x0063  2      filter-replacement-timer"));

@@ -3,6 +3,7 @@
 mod common;
 
 use common::*;
+use std::thread;
 
 const START: &str = "standby  ventilation only  until 00:00";
 const EVENING: &str = "speed 2  21 degrees        until 22:30";
@@ -93,16 +94,29 @@ fn a_group_is_set_on_each_of_its_days() {
 #[test]
 fn a_write_by_bytes_is_listed_as_bytes() {
     let board = Board::client();
-    for (value, listed) in [
-        ("0x09010215160F", "0x0077,06010215160F\n"),
-        ("0x0A010215160F", "0x0077,unknown\n"),
-        ("0x06010615160F", "0x0077,06010215160F\n"),
+    for (value, listed, reason) in [
+        ("0x09010215160F", "0x0077,06010215160F\n", None),
+        (
+            "0x0A010215160F",
+            "0x0077,unknown\n",
+            Some("the board does not know it"),
+        ),
+        (
+            "0x06010615160F",
+            "0x0077,06010215160F\n",
+            Some("sent saturday 1 6 21 15:22 (06010615160F)"),
+        ),
+        (
+            "0x0601",
+            "0x0077,unknown\n",
+            Some("sent 0x0601, the board does not know it"),
+        ),
     ] {
-        let word = format!("schedule-setup={value}");
-        assert_eq!(
-            board.listed("set", &[&word]),
-            format!("number,value\n{listed}")
-        );
+        let output = board.ask("set", &[&format!("schedule-setup={value}")]);
+        let shown = String::from_utf8_lossy(&output.stdout).into_owned();
+        assert_eq!(shown, format!("number,value\n{listed}"));
+        assert_eq!(output.status.code(), Some(i32::from(reason.is_some())));
+        assert!(errors(&output).contains(reason.unwrap_or("")));
     }
 }
 
@@ -128,7 +142,7 @@ fn a_response_is_kept_and_packets_are_dumped() {
 /// Nothing is sent: nobody is there to answer.
 #[test]
 fn bad_arguments_are_told_before_anything_is_sent() {
-    let asked = |more: &[&str]| ask("127.0.0.1:9", (ID, PASSWORD), "schedule", more);
+    let asked = |more: &[&str]| asked(NOBODY, "schedule", more);
     for (more, reason) in [
         (&[][..], "schedule takes get or set"),
         (&["raise", "monday", "1"], "schedule takes get or set"),
@@ -137,7 +151,7 @@ fn bad_arguments_are_told_before_anything_is_sent() {
         (&["get", "10"], "`10` is no day"),
         (&["get", "monday", "5"], "the period is 1 to 4, not `5`"),
         (&["get", "monday", "1", "2"], "DAY and PERIOD at most"),
-        (&["get", "--raw", "week"], "name a day"),
+        (&["get", "--raw", "week"], "--raw keeps one response"),
         (
             &["set", "monday", "1", "3", "21"],
             "takes DAY PERIOD SPEED TEMPERATURE HH:MM",
@@ -193,8 +207,13 @@ fn an_entry_that_was_not_stored_is_shown_and_told() {
         assert_eq!(output.status.code(), Some(1));
         let shown = String::from_utf8(output.stdout.clone()).expect("text");
         assert!(shown.starts_with("saturday   period 4  ") && shown.lines().count() == 1);
-        let reason = "udgornwy: the board did not store the entry that was asked for: it holds the one shown\n";
-        assert_eq!(errors(&output), reason);
+        let told = errors(&output);
+        let sent = "sent weekend 4 3 21 08:30 (090403151E08), held saturday 4 ";
+        assert!(
+            told.starts_with("udgornwy: schedule-setup (0x0077) was not stored: "),
+            "{told}"
+        );
+        assert!(told.contains(sent) && told.lines().count() == 1, "{told}");
     }
     let stored = answered(
         &reported(&[0xFE, 6, 0x77, 6, 4, 3, 21, 30, 8]),
@@ -206,38 +225,57 @@ fn an_entry_that_was_not_stored_is_shown_and_told() {
 }
 
 #[test]
+fn an_entry_that_is_unknown_is_told() {
+    let unknown = reported(&[0xFD, 0x77]);
+    let get = answered(&unknown, "schedule", &["get", "-t", "20", "sat", "4"]);
+    assert_eq!(get.status.code(), Some(1));
+    assert_eq!(
+        String::from_utf8_lossy(&get.stdout),
+        "saturday, period 4: unknown\n"
+    );
+    let told = "udgornwy: the board reports 0x0077 as unknown for saturday, period 4\n";
+    assert_eq!(errors(&get), told);
+    let set = answered(&unknown, "schedule", &SET);
+    assert_eq!(set.status.code(), Some(1));
+    assert!(errors(&set).ends_with(", the board does not know it\n"));
+    assert_eq!(errors(&set).lines().count(), 1);
+}
+
+/// Each is ignored, and told where no answer comes.
+#[test]
 fn reports_that_are_no_answer() {
-    let get = ["get", "-t", "20", "-r", "0", "saturday", "4"];
-    for (data, reason) in [
+    let get = ["get", "-t", "0.6", "-r", "0", "saturday", "4"];
+    let set = ["set", "-t", "0.6", "sat", "4", "3", "21", "08:30"];
+    let others = [
         (
-            &[0xFD, 0x77][..],
-            "the board reports 0x0077 as unknown for saturday, period 4",
-        ),
-        (
-            &[0xFE, 6, 0x77, 5, 4, 3, 21, 30, 8],
-            "the board reports 0x0077,050403151E08 where",
+            &[0xFE, 6, 0x77, 5, 4, 3, 21, 30, 8][..],
+            "reports another entry of the schedule",
         ),
         (
             &[0xFE, 6, 0x77, 6, 3, 3, 21, 30, 8],
-            "where the entry of saturday, period 4 was asked for",
+            "reports another entry of the schedule",
         ),
         (
             &[0xFE, 5, 0x77, 6, 4, 3, 21, 30],
-            "the board reports 0x0077,060403151E where",
+            "reports 0x0077 with 5 bytes",
         ),
         (
             &[0xFE, 6, 0x78, 6, 4, 3, 21, 30, 8],
-            "the board reports 0x0078,060403151E08 where",
+            "reports 0x0078, not 0x0077",
         ),
-        (&[], "reports asked for: 1, reports that came: 0"),
-        (
-            &[0xFD, 0x77, 0xFD, 0x77],
-            "reports asked for: 1, reports that came: 2",
-        ),
-    ] {
-        failed(&answered(&reported(data), "schedule", &get), 1, reason);
-        failed(&answered(&reported(data), "schedule", &SET), 1, reason);
-    }
+        (&[], "has 0 report(s), not 1"),
+        (&[0xFD, 0x77, 0xFD, 0x77], "has 2 report(s), not 1"),
+    ];
+    thread::scope(|scope| {
+        for (data, reason) in others {
+            for words in [&get[..], &set] {
+                scope.spawn(move || {
+                    let reason = format!("packets ignored: 1, the last one {reason}");
+                    failed(&answered(&reported(data), "schedule", words), 1, &reason);
+                });
+            }
+        }
+    });
 }
 
 #[test]

@@ -13,6 +13,9 @@ use std::time::{Duration, Instant};
 /// A response on the loopback address takes far less, also on a busy machine.
 pub const PATIENCE: Duration = Duration::from_secs(20);
 
+/// Where nobody listens: no port that a test is given.
+pub const NOBODY: &str = "127.0.0.1:9";
+
 pub const ID: &str = "002D6E1B34565815";
 pub const ZERO_ID: &str = "00000000000000000000000000000000";
 pub const PASSWORD: &str = "1111";
@@ -88,7 +91,7 @@ impl Drop for Board {
     }
 }
 
-fn read_lines(stream: impl Read + Send + 'static) -> Receiver<String> {
+pub fn read_lines(stream: impl Read + Send + 'static) -> Receiver<String> {
     let (sender, receiver) = mpsc::channel();
     thread::spawn(move || {
         for line in BufReader::new(stream).lines().map_while(Result::ok) {
@@ -100,7 +103,7 @@ fn read_lines(stream: impl Read + Send + 'static) -> Receiver<String> {
     receiver
 }
 
-fn wait(process: &mut Child) -> ExitStatus {
+pub fn wait(process: &mut Child) -> ExitStatus {
     let deadline = Instant::now() + PATIENCE;
     while Instant::now() < deadline {
         if let Some(status) = process.try_wait().expect("a process to wait for") {
@@ -112,14 +115,18 @@ fn wait(process: &mut Child) -> ExitStatus {
     panic!("the process did not end");
 }
 
-/// Runs the program to its end.
-pub fn run(arguments: &[&str]) -> Output {
-    let mut process = Command::new(PROGRAM)
+pub fn start(arguments: &[&str]) -> Child {
+    Command::new(PROGRAM)
         .args(arguments)
         .stdout(Stdio::piped())
         .stderr(Stdio::piped())
         .spawn()
-        .expect("the program runs");
+        .expect("the program runs")
+}
+
+/// Runs the program to its end.
+pub fn run(arguments: &[&str]) -> Output {
+    let mut process = start(arguments);
     wait(&mut process);
     process.wait_with_output().expect("the program's output")
 }
@@ -139,6 +146,11 @@ pub fn listing(output: &Output) -> String {
 
 pub fn errors(output: &Output) -> String {
     String::from_utf8(output.stderr.clone()).expect("text")
+}
+
+/// Standard output, however the program ended.
+pub fn shown(output: &Output) -> String {
+    String::from_utf8(output.stdout.clone()).expect("text")
 }
 
 /// A failed command has one line on standard error and nothing on standard output.
@@ -170,17 +182,49 @@ pub fn open_socket() -> UdpSocket {
 
 /// Runs a command of the client against a socket that answers the first request with these packets.
 pub fn answered(packets: &[Vec<u8>], command: &str, more: &[&str]) -> Output {
+    let (output, _) = served(
+        1,
+        |_, _| packets.to_vec(),
+        |host| asked(host, command, more),
+    );
+    output
+}
+
+/// Runs a command of the client with the usual ID and password.
+pub fn asked(host: &str, command: &str, more: &[&str]) -> Output {
+    ask(host, (ID, PASSWORD), command, more)
+}
+
+/// Does something against a socket that answers so many requests, each by its index and its bytes; what came of it, and who asked.
+pub fn served<T>(
+    requests: usize,
+    answer: impl Fn(usize, &[u8]) -> Vec<Vec<u8>> + Sync,
+    act: impl FnOnce(&str) -> T,
+) -> (T, Vec<SocketAddr>) {
     let socket = open_socket();
     let host = socket.local_addr().expect("an address").to_string();
     thread::scope(|scope| {
-        scope.spawn(|| {
-            let (_, client) = socket.recv_from(&mut [0; 256]).expect("a request");
-            for packet in packets {
-                socket.send_to(packet, client).expect("a packet sent");
-            }
+        let server = scope.spawn(|| {
+            let answers = (0..requests).map(|index| {
+                let mut buffer = [0; 256];
+                let (length, client) = socket.recv_from(&mut buffer).expect("a request");
+                for packet in answer(index, &buffer[..length]) {
+                    // A client that has ended refuses what comes later.
+                    let _ = socket.send_to(&packet, client);
+                }
+                client
+            });
+            answers.collect()
         });
-        ask(&host, (ID, PASSWORD), command, more)
+        let done = act(&host);
+        (done, server.join().expect("a server that ends"))
     })
+}
+
+/// Whether everything that a program wrote is printable.
+pub fn is_printable(output: &Output) -> bool {
+    let mut written = output.stdout.iter().chain(&output.stderr);
+    written.all(|byte| *byte == b'\n' || (b' '..=b'~').contains(byte))
 }
 
 /// A board's client by socket.

@@ -1,0 +1,65 @@
+//! The commands that README shows, and the page about the client.
+
+mod common;
+
+use common::*;
+use std::fs;
+use std::path::Path;
+
+fn document(name: &str) -> String {
+    let path = Path::new(env!("CARGO_MANIFEST_DIR")).join("..").join(name);
+    fs::read_to_string(path).expect("a document")
+}
+
+/// The words of each command in a document.
+fn commands(text: &str) -> Vec<Vec<&str>> {
+    let program = "    host/target/release/udgornwy ";
+    let lines = text.lines().filter_map(|line| line.strip_prefix(program));
+    let words = lines.map(|line| line.trim_end_matches(" &").split_whitespace().collect());
+    words.collect()
+}
+
+#[test]
+fn the_commands_of_the_readme_work() {
+    let text = document("README.md");
+    let commands = commands(&text);
+    let (board, commands) = commands.split_first().expect("commands");
+    assert_eq!(board[..2], ["board", "--id"]);
+    let board = Board::client();
+    let host = board.host();
+    for command in commands {
+        let here = command.iter().map(|word| match *word {
+            "127.0.0.1" => &host,
+            word => word,
+        });
+        let output = run(&here.collect::<Vec<&str>>());
+        assert!(!listing(&output).is_empty(), "{command:?}");
+        assert_eq!(errors(&output), "", "{command:?}");
+    }
+    assert!(commands.len() >= 4);
+}
+
+/// What the page shows is what a board answers.
+#[test]
+fn the_clients_page_shows_what_is_seen() {
+    let page = document("docs/CLIENT.md").replace("\n    ", "\n");
+    let more = ["--measure", "intake-air-temperature=-5.0"];
+    let board = Board::start(ID, "client", &more);
+    let set = board.ask("set", &["speed-mode=3", "temperature-setpoint-normal=31"]);
+    assert!(page.contains(&(shown(&set) + &errors(&set))));
+    board.listed("set", &["temperature-setpoint-normal=21"]);
+    let rows = [
+        "temperature-setpoint-normal",
+        "intake-air-temperature",
+        "0x0101",
+    ];
+    for format in ["listing", "table"] {
+        let listed = board.listed("get", &[&["--format", format], &rows[..]].concat());
+        assert!(page.contains(&listed), "{listed}");
+    }
+    let entry = ["set", "friday", "1", "3", "21", "08:30"];
+    assert!(page.contains(&board.listed("schedule", &entry)));
+    let json = board.listed("get", &["--format", "json", rows[1]]);
+    let (_, members) = json.split_once("\"id\"").expect("an ID");
+    assert!(page.contains(members), "{json}");
+}
