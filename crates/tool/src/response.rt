@@ -1,10 +1,9 @@
 // Reads a response packet.
-use super::Check;
+use framing::Check;
 use framing::Parsed;
 use framing::Places;
 ghost use mathlib.Core.Path.{_≡_};
-ghost use Rattle.tool.specs.Checks.{checked};
-ghost use Rattle.framing.specs.Refusal.{firstRefusal};
+ghost use Rattle.framing.specs.Refusal.{firstRefusal, checked};
 ghost use Rattle.framing.specs.Packet.{placesOf, frameOf};
 ghost use Rattle.tool.specs.Response.{readCall, responseOf, responseAs, responseRefusals, anyResponseOf, otherId, otherPassword, noResponse, malformedBlock, numberOf, Stands};
 
@@ -21,25 +20,25 @@ fn check_same_id(asked: &[u8], found: &[u8]) -> Check
     if framing::is_default_id(asked) {
         return Check::Passed;
     }
-    super::passed_if(octets::equal(found, asked))
+    framing::passed_if(octets::equal(found, asked))
 }
 
 fn check_same_password(sent: &[u8], found: &[u8]) -> Check
     ensures { λ r. ⌜ r ≡ checked (otherPassword (now (sent .entry)) (now (found .entry))) ⌝ }
 {
-    super::passed_if(octets::equal(found, sent))
+    framing::passed_if(octets::equal(found, sent))
 }
 
 fn check_function(function: u8) -> Check
     ensures { λ r. ⌜ r ≡ checked (noResponse function) ⌝ }
 {
-    super::passed_if(function == 6)
+    framing::passed_if(function == 6)
 }
 
 fn check_block(block: &[u8]) -> Check
     ensures { λ r. ⌜ r ≡ checked (malformedBlock (now (block .entry))) ⌝ }
 {
-    super::passed_if(reports::well_formed(block))
+    framing::passed_if(reports::well_formed(block))
 }
 
 // The number of a refused packet.
