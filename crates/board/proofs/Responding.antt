@@ -12,6 +12,7 @@ use Rattle.octets.proofs.Overwriting.{length-overwrite}
 use Rattle.octets.specs.Octets.{overwrite, same}
 use Rattle.framing.specs.Frame.{Frame, packetOf}
 use Rattle.framing.specs.Packet.{Writes, writable}
+use Rattle.framing.specs.Refusal.{firstRefusal}
 use Rattle.framing.specs.declared.Written.{Written}
 use Rattle.framing.specs.declared.Written.the-variants.{Length, NoPacket}
 use Rattle.framing.specs.Packet.{frameOf, packetRefusal, parsedAs, passwordSize, placesOf}
@@ -23,17 +24,18 @@ use Rattle.framing.proofs.WritesRead.{accepted}
 use Rattle.block.specs.Command.{Command}
 use Rattle.block.specs.Encoding.{encodableReport, encodeReports, every}
 use Rattle.block.specs.Request.{commands, onlyReads}
-use Rattle.board.specs.Answering.{Leaves, answered, checked, inIdentity, numberIn, refusedWith, responded, respondedIn, respondedWith, responseOf, scopeOf}
+use Rattle.board.specs.Answering.{Leaves, answered, answeredAs, checked, inIdentity, judged, judgedBy, numberRead, refusedWith, requestChecks, respondedIn, respondedWith, responseOf, scopeOf}
 use Rattle.model.specs.Commands.{run}
 use Rattle.commands.specs.Draft.{blank, exceeded, extended, ranBehind, ranBlock, ranOf, runReportsIn, taken}
 use Rattle.model.specs.Record.{passwordOf, withParameters}
-use Rattle.model.specs.Step.{Call, Outcome, Request, Steps, step, outcomeOf, isDiscovery, otherId, wrongPassword, wrongFunction, malformed, discoveryWrites}
+use Rattle.model.specs.Step.{Call, Outcome, Request, Steps, step, outcomeOf, isDiscovery, wrongPassword, discoveryWrites}
 use Rattle.model.specs.declared.Answer.{Answer}
-use Rattle.model.specs.declared.Answer.the-variants.{Refused, Response, Silence}
+use Rattle.model.specs.declared.Answer.the-variants.{Response, Silence}
 use Rattle.model.specs.declared.Board.{Board}
 use Rattle.model.specs.declared.Parameters.{Parameters}
 use Rattle.model.specs.declared.Stepped.{Stepped}
 use Rattle.board.specs.declared.checks.Check.{Check}
+use Rattle.board.specs.declared.packets.Judged.{Judged}
 use Rattle.commands.specs.declared.Ran.{Ran}
 use Rattle.commands.specs.declared.Scope.{Scope}
 use Rattle.commands.specs.declared.draft.Room.{Room}
@@ -103,23 +105,12 @@ frame-not-written {f} {buffer} {after} d h =
     let no : writable f buffer ≡ false = not-written-by (writable f buffer) _ (d .answered) h in
     (no, d .held ∙ rw no)
 
--- a request by the five checks before its response
-pub answered-by :
-    (r : Request) (buffer : List ℕ) {id-wrong password-wrong function-wrong block-wrong reads-wrong : Bool} → otherId r ≡ id-wrong → wrongPassword r ≡ password-wrong
-    → wrongFunction r ≡ function-wrong → malformed r ≡ block-wrong → discoveryWrites r ≡ reads-wrong
-    → answered r buffer
-    ≡ cond id-wrong (refusedWith 7 r buffer)
-    (cond password-wrong (refusedWith 8 r buffer)
-    (cond function-wrong (refusedWith 9 r buffer)
-    (cond block-wrong (refusedWith 10 r buffer)
-    (cond reads-wrong (refusedWith 11 r buffer) (responded (scopeOf (isDiscovery r)) r buffer)))))
-unfolding answered
-answered-by r buffer a b c d e =
-    λ i. cond (a i) (refusedWith 7 r buffer)
-    (cond (b i) (refusedWith 8 r buffer)
-    (cond (c i) (refusedWith 9 r buffer)
-    (cond (d i) (refusedWith 10 r buffer)
-    (cond (e i) (refusedWith 11 r buffer) (responded (scopeOf (isDiscovery r)) r buffer)))))
+-- a judgement by its refusal, and a request by its judgement
+pub judged-as : (r : Request) {refusal : Option ℕ} → firstRefusal requestChecks r ≡ refusal → judgedBy refusal r ≡ judged r
+judged-as r e = ap (λ (refusal : Option ℕ). judgedBy refusal r) (sym e)
+
+pub answered-by : (r : Request) (buffer : List ℕ) {judgement : Judged} → judgement ≡ judged r → answered r buffer ≡ answeredAs judgement r buffer
+answered-by r buffer e = ap (λ (judgement : Judged). answeredAs judgement r buffer) (sym e)
 
 -- a scope tells whether there is a discovery
 scope-told : (discovery : Bool) → inIdentity (scopeOf discovery) ≡ discovery
@@ -131,15 +122,17 @@ module _ (r : Request) {scope : Scope} (told : scope ≡ scopeOf (isDiscovery r)
   is-discovery : inIdentity scope ≡ isDiscovery r
   is-discovery = ap inIdentity told ∙ scope-told (isDiscovery r)
 
-  pub password-told : {check : Check} → check ≡ checked (not (inIdentity scope) && not (same (r .frame .password) (passwordOf (r .board)))) → check ≡ checked (wrongPassword r)
-  password-told e = e ∙ ap (λ (discovery : Bool). checked (not discovery && not (same (r .frame .password) (passwordOf (r .board))))) is-discovery
+  pub password-told :
+      {own : List ℕ} {check : Check} → own ≡ passwordOf (r .board) → check ≡ checked (not (inIdentity scope) && not (same (r .frame .password) own))
+      → check ≡ checked (wrongPassword r)
+  password-told own e = e ∙ (λ i. checked (not (is-discovery i) && not (same (r .frame .password) (own i))))
 
   pub reads-told : {check : Check} → check ≡ checked (inIdentity scope && not (onlyReads (r .frame .function) (r .frame .block))) → check ≡ checked (discoveryWrites r)
   reads-told e = e ∙ ap (λ (discovery : Bool). checked (discovery && not (onlyReads (r .frame .function) (r .frame .block)))) is-discovery
 
 -- what framing's reader answered
-pub refused-number : (refusal : Option ℕ) (places : Places) {parsed : Parsed} {number : ℕ} → parsed ≡ parsedAs refusal places → parsed ≡ read.Refused number → refusal ≡ some (numberIn parsed)
-refused-number (some n) places e h = ap (λ (p : Parsed). some (numberIn p)) (sym e)
+pub refused-number : (refusal : Option ℕ) (places : Places) {parsed : Parsed} {number : ℕ} → parsed ≡ parsedAs refusal places → parsed ≡ read.Refused number → refusal ≡ some (numberRead parsed)
+refused-number (some n) places e h = ap (λ (p : Parsed). some (numberRead p)) (sym e)
 refused-number none places e h = cc
 
 pub accepted-places : (refusal : Option ℕ) {given places : Places} {parsed : Parsed} → parsed ≡ parsedAs refusal given → parsed ≡ read.Frame places → (refusal ≡ none) × (places ≡ given)

@@ -1,18 +1,18 @@
 -- Laws of set-up and of a record's arrays.
-use Prim.Native.Nat.{ℕ, zero, suc, _+_, _-_, _≤_}
+use Prim.Native.Nat.{ℕ, zero, suc, _-_, _≤_}
 use native.Mathlib.Nat.{zero-add}
 use native.Mathlib.Numerals.{unary-clauses}
 use native.Mathlib.Omega.{arith}
 use mathlib.Core.Bool.{Bool, true, false, cond, not, _&&_, and-false}
-use mathlib.Core.List.{List, [], _∷_, _++_, append-nil}
+use mathlib.Core.List.{List, [], _∷_, append-nil}
 use mathlib.Core.Option.{Option, none, some}
 use mathlib.Core.Path.{_≡_, refl, sym, ap, _∙_}
-use borrow.Author.Tests.{le-leb, leb-true, eqb-true, not-false}
+use borrow.Author.Tests.{le-leb, eqb-true}
 use lib.Dec.{leb, eqb}
-use lib.ListN.{length, take, drop, replicate, length-replicate}
-use Rattle.octets.specs.Octets.{Overwrites, overwrite, same}
+use lib.ListN.{length, drop, replicate, length-replicate}
+use Rattle.octets.specs.Octets.{Overwrites, same}
 use Rattle.octets.proofs.Booleans.{both-true}
-use Rattle.framing.specs.Identity.{allAlphanumeric, defaultId, isPassword}
+use Rattle.framing.specs.Identity.{allAlphanumeric, isPassword}
 use Rattle.framing.specs.Refusal.{firstRefusal}
 use Rattle.board.specs.Answering.{laid, recordOf}
 use Rattle.store.specs.Layout.{sizeOf, valueOf}

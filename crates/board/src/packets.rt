@@ -9,10 +9,18 @@ use framing::Written;
 use model::Answer;
 use model::Board;
 use model::Stepped;
+ghost use Prim.Native.Nat.{_≤_};
 ghost use mathlib.Core.Path.{_≡_};
 ghost use Rattle.framing.specs.Frame.{frame};
-ghost use Rattle.board.specs.Answering.{Leaves, answered, numberIn, responded};
+ghost use Rattle.board.specs.Answering.{Leaves, answered, judged, numberJudged, numberRead, responded};
+ghost use Rattle.model.specs.Record.{passwordOf};
 ghost use Rattle.model.specs.Step.{Steps, call, requestOf};
+
+// What the checks make of a request: the number of its refusal, or which parameters it may have reported.
+enum Judged {
+    Refused(u8),
+    Passed(Scope),
+}
 
 fn refused(board: Board, number: u8) -> Stepped
     ensures { λ r. ⌜ (r .board ≡ board) × (r .answer ≡ Answer.Refused number) ⌝ }
@@ -61,7 +69,48 @@ fn respond(
     }
 }
 
-// The checks of a request, 7 to 11, and its response.
+// The checks of a request, 7 to 11.
+fn judge(
+    board: Board,
+    secret: &[u8],
+    id: &[u8],
+    password: &[u8],
+    function: u8,
+    bytes: &[u8],
+) -> Judged
+    requires { ⌜ now secret ≡ passwordOf board ⌝ }
+    ensures { λ r. ⌜ r ≡ judged (requestOf board (frame (now (id .entry)) (now (password .entry)) function (now (bytes .entry)))) ⌝ }
+{
+    let own = board.id;
+    let Check::Passed = checks::check_address(&own, id) else {
+        return Judged::Refused(7);
+    };
+    let scope = checks::scope_of(board.mode, id);
+    let Check::Passed = checks::check_password(scope, secret, password) else {
+        return Judged::Refused(8);
+    };
+    let Check::Passed = checks::check_function(function) else {
+        return Judged::Refused(9);
+    };
+    let Check::Passed = checks::check_block(function, bytes) else {
+        return Judged::Refused(10);
+    };
+    let Check::Passed = checks::check_reads(scope, function, bytes) else {
+        return Judged::Refused(11);
+    };
+    Judged::Passed(scope)
+}
+
+fn number_judged(judged: Judged) -> u8
+    ensures { λ r. ⌜ r ≡ numberJudged judged ⌝ }
+{
+    match judged {
+        Judged::Refused(number) => number,
+        Judged::Passed(_) => 0,
+    }
+}
+
+// The response to a request, or its refusal.
 fn answer(
     board: Board,
     id: &[u8],
@@ -70,30 +119,21 @@ fn answer(
     bytes: &[u8],
     response: &mut [u8],
 ) -> Stepped
+    requires { ⌜ board .size ≤ 8 ⌝ }
     ensures { λ r. ⌜ Leaves (answered (requestOf board (frame (now (id .entry)) (now (password .entry)) function (now (bytes .entry)))) (now (response .entry))) r (now (response .exit)) ⌝ }
 {
-    let own = board.id;
-    let Check::Passed = checks::check_address(&own, id) else {
-        return refused(board, 7);
-    };
-    let scope = checks::scope_of(board.mode, id);
-    let Check::Passed = records::check_password(scope, board, password) else {
-        return refused(board, 8);
-    };
-    let Check::Passed = checks::check_function(function) else {
-        return refused(board, 9);
-    };
-    let Check::Passed = checks::check_block(function, bytes) else {
-        return refused(board, 10);
-    };
-    let Check::Passed = checks::check_reads(scope, function, bytes) else {
-        return refused(board, 11);
+    let stored = board.password;
+    let size = octets::wide(board.size);
+    let secret = &stored[..size];
+    let judged = judge(board, secret, id, password, function, bytes);
+    let Judged::Passed(scope) = judged else {
+        return refused(board, number_judged(judged));
     };
     respond(scope, board, id, password, function, bytes, response)
 }
 
-fn number_of(parsed: Parsed) -> u8
-    ensures { λ r. ⌜ r ≡ numberIn parsed ⌝ }
+fn number_read(parsed: Parsed) -> u8
+    ensures { λ r. ⌜ r ≡ numberRead parsed ⌝ }
 {
     match parsed {
         Parsed::Refused(number) => number,
@@ -112,7 +152,7 @@ pub(crate) fn packet(board: Board, packet: &[u8], response: &mut [u8]) -> Steppe
     };
     let parsed = framing::read(packet);
     let Parsed::Frame(places) = parsed else {
-        return refused(board, number_of(parsed));
+        return refused(board, number_read(parsed));
     };
     let from = places.id;
     let until = from + 16;

@@ -1,7 +1,6 @@
 // A board's record: made by set-up, and judged by every call that takes one.
 use super::checks;
 use super::checks::Check;
-use commands::Scope;
 use model::Answered;
 use model::Board;
 use model::Parameters;
@@ -16,9 +15,9 @@ ghost use Rattle.store.specs.Operations.{refusalOf};
 ghost use Rattle.store.specs.Sound.{sound as rowsSound};
 ghost use Rattle.store.specs.Start.{start as startRows};
 ghost use Rattle.schedule.specs.Entries.{start as startEntries};
-ghost use Rattle.board.specs.Answering.{checked, inIdentity, laid, recordOf};
+ghost use Rattle.board.specs.Answering.{checked, laid, recordOf};
 ghost use Rattle.model.specs.Measurement.{MeasuresBoard, measureCall};
-ghost use Rattle.model.specs.Record.{SetsUp, micra, parametersOf, passwordOf, setUp, sound, startBoard, unset, withParameters};
+ghost use Rattle.model.specs.Record.{SetsUp, micra, parametersOf, setUp, sound, startBoard, unset, withParameters};
 
 fn in_sixteen(bytes: &[u8]) -> [u8; 16]
     ensures { λ r. ⌜ r ≡ laid 16 (now (bytes .entry)) ⌝ }
@@ -141,18 +140,6 @@ pub(crate) fn check_record(board: Board) -> Check
         return Check::Failed;
     }
     check_rows(id, parameters.store)
-}
-
-// 8.
-pub(crate) fn check_password(scope: Scope, board: Board, password: &[u8]) -> Check
-    ensures { λ r. ⌜ r ≡ checked (not (inIdentity scope) && not (same (now (password .entry)) (passwordOf board))) ⌝ }
-{
-    let own = board.password;
-    let size = octets::wide(board.size);
-    if 8 < size {
-        return checks::check_password(scope, &own, password);
-    }
-    checks::check_password(scope, &own[..size], password)
 }
 
 pub(crate) fn with_parameters(board: Board, parameters: Parameters) -> Board

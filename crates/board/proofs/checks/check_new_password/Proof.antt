@@ -1,7 +1,7 @@
 -- `board::checks::check_new_password` meets its contract.
-use mathlib.Core.Bool.{not, _&&_, _||_}
-use mathlib.Core.Path.{_≡_, sym, _∙_}
-use Rattle.board.specs.Answering.{checked, scopeOf, inIdentity}
+use mathlib.Core.Bool.{not}
+use mathlib.Core.Path.{sym, _∙_}
+use Rattle.board.specs.Answering.{checked}
 use borrow.Author.Needs.{needs}
 use Rattle.board.proofs.checks.check_new_password.Statement.{statement}
 use Rattle.board.proofs.checks.check_new_password.Tie as tie

@@ -1,5 +1,5 @@
 -- `board::records::measure` meets its contract.
-use mathlib.Core.Path.{_≡_, refl, sym, ap, _∙_}
+use mathlib.Core.Path.{refl, ap, _∙_}
 use denote.Ref.{now}
 use Rattle.store.specs.declared.Store.{Store}
 use Rattle.model.specs.Measurement.{measureCall}

@@ -1,6 +1,5 @@
 -- `board::records::set_up` meets its contract.
-use mathlib.Core.Path.{_≡_, refl, sym, ap, _∙_}
-use mathlib.Core.Bool.{Bool, true, false, not, _&&_, _||_}
+use mathlib.Core.Path.{refl, _∙_}
 use borrow.Author.Tests.{not-false}
 use denote.Ref.{now}
 use Rattle.model.specs.Record.{setUp}

@@ -1,6 +1,6 @@
 -- `board::records::start` meets its contract.
-use mathlib.Core.Path.{_≡_, refl, sym, ap, _∙_}
-use borrow.Author.Tests.{eq-eqb, ne-eqb, le-leb, lt-leb, lt-ltb, le-ltb, not-true, not-false}
+use mathlib.Core.Path.{sym, ap, _∙_}
+use borrow.Author.Tests.{le-leb, lt-leb}
 use denote.Ref.{now}
 use mathlib.Core.Bool.{Bool, cond}
 use mathlib.Core.List.{List, []}
@@ -9,8 +9,6 @@ use lib.ListN.{length}
 use Rattle.store.specs.Start.{start as startRows}
 use Rattle.schedule.specs.Entries.{start as startEntries}
 use Rattle.model.specs.Record.{parametersOf}
-use Rattle.board.specs.Answering.{laid}
-use Rattle.model.specs.declared.Board.{Board}
 use borrow.Author.Needs.{needs}
 use Rattle.board.proofs.records.start.Statement.{statement}
 use Rattle.board.proofs.records.start.Tie as tie
