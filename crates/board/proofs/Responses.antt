@@ -21,7 +21,7 @@ use Rattle.block.specs.Command.{Command, commandNumber, isRead, Report, held, u
 use Rattle.block.specs.Encoding.{change, reportBody, encodeReport, encodeReports, encodableReport, every}
 use Rattle.block.specs.Reading.{isSome}
 use Rattle.block.specs.Request.{onlyReads}
-use Rattle.block.proofs.AllReads.{all-reads}
+use Rattle.block.proofs.AllReads.{all-reads, other-named}
 use Rattle.block.proofs.LowBytes.{isLow, low-bytes}
 use Rattle.store.specs.Layout.{valueOf}
 use Rattle.store.specs.Rows.{rows, indexIn, known}
@@ -31,6 +31,7 @@ use Rattle.model.specs.Changes.{Sized}
 use Rattle.model.specs.Commands.{afterCommand, reported, run, runReports, discovered, discoverReports}
 use Rattle.commands.specs.Draft.{blank, taken, extended, exceeded, reportedIn, runReportsIn, selected, ranOf, ranBehind}
 use Rattle.model.specs.Record.{sound, micra, withParameters}
+use Rattle.model.specs.Conditions.{otherThanReads}
 use Rattle.model.specs.Step.{Request, isDiscovery, decoded, reportsOf, malformed, longResponse, requestRefusals, Outcome, outcomeOf, nextBoard, answerWith, outcomeBy}
 use Rattle.model.specs.declared.Answer.the-variants.{Silence, Response}
 use Rattle.model.specs.declared.Board.{Board}
@@ -272,10 +273,11 @@ module _ (r : Request) (buffer : List ℕ) (legal : sound (r .board) ≡ true) (
 
     responds-by :
         (discovery : Bool) → isDiscovery r ≡ discovery → malformed r ≡ false
-        → (discovery && not (onlyReads (r .frame .function) (r .frame .block))) ≡ false
+        → (discovery && otherThanReads (r .frame)) ≡ false
         → responded (scopeOf discovery) r buffer ≡ outcomeBy (cond (longResponse r) (some 12) none) r buffer
     responds-by true d formed reads =
-        let (cs, e, all) = all-reads (r .frame .function) (r .frame .block) (not-false _ reads) in
+        let only : not (onlyReads (r .frame .function) (r .frame .block)) ≡ false = sym (other-named (r .frame .function) (r .frame .block) (not-false _ formed)) ∙ reads in
+        let (cs, e, all) = all-reads (r .frame .function) (r .frame .block) (not-false _ only) in
         let parts = sound-parts (r .board) legal in
         run-responds Identity cs e
         (reports-by d e ∙ sym (identity-reports (r .board .id) (r .board .parameters) (parts .own-id) (parts .unit-type) cs all))

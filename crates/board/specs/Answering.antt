@@ -1,4 +1,4 @@
--- How the code goes through a call: the answers of its checks, and what it makes of a request.
+-- How the code goes through a call: the scope of its checks, and what it makes of a request.
 use Prim.Native.Nat.{ℕ, _-_}
 use mathlib.Core.Bool.{Bool, true, false, cond}
 use mathlib.Core.List.{List, [], _++_}
@@ -9,8 +9,6 @@ use lib.ListN.{length, take, replicate}
 use Rattle.octets.specs.Octets.{overwrite}
 use Rattle.framing.specs.Frame.{Frame, frame, packetOf}
 use Rattle.framing.specs.Packet.{writable}
-use Rattle.framing.specs.declared.Parsed.{Parsed}
-use Rattle.framing.specs.declared.Parsed.the-variants.{Frame as Places, Refused as Not}
 use Rattle.framing.specs.Refusal.{Refusal, firstRefusal}
 use Rattle.store.specs.Start.{start}
 use Rattle.schedule.specs.Entries as entries
@@ -20,8 +18,6 @@ use Rattle.model.specs.Step.{Request, Outcome, outcomeOf, isDiscovery, requestR
 use Rattle.model.specs.declared.Answer.the-variants.{Refused, Silence, Response}
 use Rattle.model.specs.declared.Board.{Board}
 use Rattle.model.specs.declared.Stepped.{Stepped}
-use Rattle.board.specs.declared.checks.Check.{Check}
-use Rattle.board.specs.declared.checks.Check.the-variants.{Passed, Failed}
 use Rattle.board.specs.declared.packets.Judged.{Judged}
 use Rattle.board.specs.declared.packets.Judged.the-variants.{Refused as No, Passed as Yes}
 use Rattle.commands.specs.declared.Ran.{Ran}
@@ -30,20 +26,12 @@ use Rattle.commands.specs.declared.Scope.the-variants.{All, Identity}
 use Rattle.commands.specs.declared.draft.Room.{Room}
 use Rattle.commands.specs.declared.draft.Room.the-variants.{Left, Over}
 
-abbrev pub checked : Bool → Check
-checked wrong = cond wrong Failed Passed
-
 abbrev pub scopeOf : Bool → Scope
 scopeOf discovery = cond discovery Identity All
 
 abbrev pub inIdentity : Scope → Bool
 inIdentity All = false
 inIdentity Identity = true
-
--- the number of a refused packet
-abbrev pub numberRead : Parsed → ℕ
-numberRead (Places places) = 0
-numberRead (Not number) = number
 
 -- bytes in an array of a size, the rest zero
 abbrev pub laid : ℕ → List ℕ → List ℕ

@@ -1,9 +1,9 @@
 // What a packet is answered with.
 use super::checks;
-use super::checks::Check;
 use super::records;
 use commands::Scope;
 use commands::draft::Room;
+use framing::Check;
 use framing::Parsed;
 use framing::Written;
 use model::Answer;
@@ -12,7 +12,7 @@ use model::Stepped;
 ghost use Prim.Native.Nat.{_≤_};
 ghost use mathlib.Core.Path.{_≡_};
 ghost use Rattle.framing.specs.Frame.{frame};
-ghost use Rattle.board.specs.Answering.{Leaves, answered, judged, numberJudged, numberRead, responded};
+ghost use Rattle.board.specs.Answering.{Leaves, answered, judged, numberJudged, responded};
 ghost use Rattle.model.specs.Record.{passwordOf};
 ghost use Rattle.model.specs.Step.{Steps, call, requestOf};
 
@@ -132,15 +132,6 @@ fn answer(
     respond(scope, board, id, password, function, bytes, response)
 }
 
-fn number_read(parsed: Parsed) -> u8
-    ensures { λ r. ⌜ r ≡ numberRead parsed ⌝ }
-{
-    match parsed {
-        Parsed::Refused(number) => number,
-        Parsed::Frame(_) => 0,
-    }
-}
-
 pub(crate) fn packet(board: Board, packet: &[u8], response: &mut [u8]) -> Stepped
     ensures { λ r. ⌜ Steps (call board (now (packet .entry)) (now (response .entry))) r (now (response .exit)) ⌝ }
 {
@@ -152,7 +143,7 @@ pub(crate) fn packet(board: Board, packet: &[u8], response: &mut [u8]) -> Steppe
     };
     let parsed = framing::read(packet);
     let Parsed::Frame(places) = parsed else {
-        return refused(board, number_read(parsed));
+        return refused(board, framing::number_read(parsed));
     };
     let from = places.id;
     let until = from + 16;

@@ -1,6 +1,6 @@
 // A board's record: made by set-up, and judged by every call that takes one.
 use super::checks;
-use super::checks::Check;
+use framing::Check;
 use model::Answered;
 use model::Board;
 use model::Parameters;
@@ -15,7 +15,8 @@ ghost use Rattle.store.specs.Operations.{refusalOf};
 ghost use Rattle.store.specs.Sound.{sound as rowsSound};
 ghost use Rattle.store.specs.Start.{start as startRows};
 ghost use Rattle.schedule.specs.Entries.{start as startEntries};
-ghost use Rattle.board.specs.Answering.{checked, laid, recordOf};
+ghost use Rattle.framing.specs.Refusal.{checked};
+ghost use Rattle.board.specs.Answering.{laid, recordOf};
 ghost use Rattle.model.specs.Measurement.{MeasuresBoard, measureCall};
 ghost use Rattle.model.specs.Record.{SetsUp, micra, parametersOf, setUp, sound, startBoard, unset, withParameters};
 

@@ -5,7 +5,7 @@ use framing::Places;
 ghost use mathlib.Core.Path.{_≡_};
 ghost use Rattle.framing.specs.Refusal.{firstRefusal, checked};
 ghost use Rattle.framing.specs.Packet.{placesOf, frameOf};
-ghost use Rattle.tool.specs.Response.{readCall, responseOf, responseAs, responseRefusals, anyResponseOf, otherId, otherPassword, noResponse, malformedBlock, numberOf, Stands};
+ghost use Rattle.tool.specs.Response.{readCall, responseOf, responseAs, responseRefusals, anyResponseOf, otherId, otherPassword, noResponse, malformedBlock, Stands};
 
 pub enum Response {
     // The data block stands from `block` to `end`; its reports are what `reports::next_report` hands out, from page 0 on.
@@ -41,16 +41,6 @@ fn check_block(block: &[u8]) -> Check
     framing::passed_if(reports::well_formed(block))
 }
 
-// The number of a refused packet.
-pub(crate) fn number_of(parsed: Parsed) -> u8
-    ensures { λ r. ⌜ r ≡ numberOf parsed ⌝ }
-{
-    match parsed {
-        Parsed::Frame(_) => 0,
-        Parsed::Refused(number) => number,
-    }
-}
-
 // What 9 and 10 say of a packet that passed 2 to 6.
 fn read_block(packet: &[u8], places: Places) -> Response
     requires { ⌜ Stands (now packet) places ⌝ }
@@ -80,7 +70,7 @@ pub fn read(packet: &[u8], id: &[u8], password: &[u8]) -> Response
     };
     let parsed = framing::read(packet);
     let Parsed::Frame(places) = parsed else {
-        return Response::Refused(number_of(parsed));
+        return Response::Refused(framing::number_read(parsed));
     };
     let start = places.id;
     let end = start + 16;
@@ -101,7 +91,7 @@ pub(crate) fn read_any(packet: &[u8]) -> Response
 {
     let parsed = framing::read(packet);
     let Parsed::Frame(places) = parsed else {
-        return Response::Refused(number_of(parsed));
+        return Response::Refused(framing::number_read(parsed));
     };
     read_block(packet, places)
 }

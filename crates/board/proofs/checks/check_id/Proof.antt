@@ -2,7 +2,7 @@
 use mathlib.Core.Bool.{not, _&&_}
 use mathlib.Core.Path.{sym, _∙_}
 use borrow.Author.Tests.{eq-eqb, ne-eqb}
-use Rattle.board.specs.Answering.{checked}
+use Rattle.framing.specs.Refusal.{checked}
 use Rattle.octets.specs.Octets.{same}
 use Rattle.framing.specs.Identity.{defaultId}
 use denote.Ref.{now}

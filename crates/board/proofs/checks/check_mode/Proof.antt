@@ -2,7 +2,7 @@
 use mathlib.Core.Bool.{not, _||_}
 use mathlib.Core.Path.{sym}
 use borrow.Author.Tests.{ne-eqb}
-use Rattle.board.specs.Answering.{checked}
+use Rattle.framing.specs.Refusal.{checked}
 use Rattle.board.proofs.checks.check_mode.Statement.{statement}
 use Rattle.board.proofs.checks.check_mode.Tie as tie
 

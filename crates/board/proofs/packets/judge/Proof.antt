@@ -6,9 +6,10 @@ use lib.ListN.{drop}
 use Rattle.framing.specs.Frame.{frame}
 use Rattle.framing.specs.Refusal.{firstRefusal}
 use Rattle.model.specs.Step.{Request, requestOf, requestRefusals, discoveryWrites, wrongPassword}
-use Rattle.board.specs.Answering.{checked, requestChecks}
+use Rattle.framing.specs.Refusal.{checked}
+use Rattle.board.specs.Answering.{requestChecks}
 use Rattle.board.specs.declared.packets.Judged.the-variants.{Passed}
-use Rattle.board.proofs.Checking.{goes-on, ends-here}
+use Rattle.framing.proofs.Refusals.{passed, goes-on, ends-here}
 use Rattle.board.proofs.Responding.{judged-as, password-told, reads-told}
 use borrow.Author.Needs.{needs}
 use Rattle.board.proofs.packets.judge.Statement.{statement}
@@ -37,11 +38,11 @@ enum-told-2 c = search needs
 
 address-right : (c : tie.After-enum-told) → Unrefused 1 (asked (c .before .before))
 unfolding requestRefusals
-address-right c = goes-on requestChecks _ _ _ refl (c .before .before .check-address .ensures) (c .enum-told .given .1)
+address-right c = goes-on _ _ _ refl (c .before .before .check-address .ensures) (c .enum-told .given .1)
 
 returns : tie.Need-returns
 unfolding requestRefusals
-returns c = judged-as (asked (c .before .before)) (ends-here requestChecks _ _ _ refl (c .before .before .check-address .ensures) (c .enum-told2 .given .1))
+returns c = judged-as (asked (c .before .before)) (ends-here _ _ _ refl (c .before .before .check-address .ensures) (c .enum-told2 .given .1))
 
 scope-of-requires : tie.Need-scope-of-requires
 scope-of-requires c κs = search needs
@@ -60,11 +61,11 @@ password-asked c = password-told (asked (c .before .before .before .before)) (c 
 
 password-right : (c : tie.After-enum-told3) → Unrefused 2 (asked (c .before .before .before .before .before .before))
 unfolding requestRefusals
-password-right c = goes-on requestChecks _ _ _ (address-right (c .before .before .before .before)) (password-asked (c .before .before)) (c .enum-told3 .given .1)
+password-right c = goes-on _ _ _ (address-right (c .before .before .before .before)) (password-asked (c .before .before)) (c .enum-told3 .given .1)
 
 returns-2 : tie.Need-returns-2
 unfolding requestRefusals
-returns-2 c = judged-as (asked (c .before .before .before .before .before .before)) (ends-here requestChecks _ _ _ (address-right (c .before .before .before .before)) (password-asked (c .before .before)) (c .enum-told4 .given .1))
+returns-2 c = judged-as (asked (c .before .before .before .before .before .before)) (ends-here _ _ _ (address-right (c .before .before .before .before)) (password-asked (c .before .before)) (c .enum-told4 .given .1))
 
 check-function-requires : tie.Need-check-function-requires
 check-function-requires c κs = search needs
@@ -77,11 +78,11 @@ enum-told-6 c = search needs
 
 function-right : (c : tie.After-enum-told5) → Unrefused 3 (asked (c .before .before .before .before .before .before .before .before .before))
 unfolding requestRefusals
-function-right c = goes-on requestChecks _ _ _ (password-right (c .before .before .before)) (c .before .before .check-function .ensures) (c .enum-told5 .given .1)
+function-right c = goes-on _ _ _ (password-right (c .before .before .before)) (c .before .before .check-function .ensures) (c .enum-told5 .given .1)
 
 returns-3 : tie.Need-returns-3
 unfolding requestRefusals
-returns-3 c = judged-as (asked (c .before .before .before .before .before .before .before .before .before)) (ends-here requestChecks _ _ _ (password-right (c .before .before .before)) (c .before .before .check-function .ensures) (c .enum-told6 .given .1))
+returns-3 c = judged-as (asked (c .before .before .before .before .before .before .before .before .before)) (ends-here _ _ _ (password-right (c .before .before .before)) (c .before .before .check-function .ensures) (c .enum-told6 .given .1))
 
 check-block-requires : tie.Need-check-block-requires
 check-block-requires c κs = search needs
@@ -94,11 +95,11 @@ enum-told-8 c = search needs
 
 block-right : (c : tie.After-enum-told7) → Unrefused 4 (asked (c .before .before .before .before .before .before .before .before .before .before .before .before))
 unfolding requestRefusals
-block-right c = goes-on requestChecks _ _ _ (function-right (c .before .before .before)) (c .before .before .check-block .ensures) (c .enum-told7 .given .1)
+block-right c = goes-on _ _ _ (function-right (c .before .before .before)) (c .before .before .check-block .ensures) (c .enum-told7 .given .1)
 
 returns-4 : tie.Need-returns-4
 unfolding requestRefusals
-returns-4 c = judged-as (asked (c .before .before .before .before .before .before .before .before .before .before .before .before)) (ends-here requestChecks _ _ _ (function-right (c .before .before .before)) (c .before .before .check-block .ensures) (c .enum-told8 .given .1))
+returns-4 c = judged-as (asked (c .before .before .before .before .before .before .before .before .before .before .before .before)) (ends-here _ _ _ (function-right (c .before .before .before)) (c .before .before .check-block .ensures) (c .enum-told8 .given .1))
 
 check-reads-requires : tie.Need-check-reads-requires
 check-reads-requires c κs = search needs
@@ -110,15 +111,17 @@ enum-told-10 : tie.Need-enum-told-10
 enum-told-10 c = search needs
 
 reads-asked : (c : tie.After-check-reads) → c .check-reads .result ≡ checked (discoveryWrites (asked (c .before .before .before .before .before .before .before .before .before .before .before .before .before)))
-reads-asked c = reads-told (asked (c .before .before .before .before .before .before .before .before .before .before .before .before .before)) (c .before .before .before .before .before .before .before .before .before .before .scope-of .ensures) (c .check-reads .ensures)
+reads-asked c =
+    reads-told (asked (c .before .before .before .before .before .before .before .before .before .before .before .before .before)) (c .before .before .before .before .before .before .before .before .before .before .scope-of .ensures)
+    (passed _ (c .before .before .before .check-block .ensures) (c .before .enum-told7 .given .1)) (c .check-reads .ensures)
 
 reads-right : (c : tie.After-enum-told9) → Unrefused 5 (asked (c .before .before .before .before .before .before .before .before .before .before .before .before .before .before .before))
 unfolding requestRefusals
-reads-right c = goes-on requestChecks _ _ _ (block-right (c .before .before .before)) (reads-asked (c .before .before)) (c .enum-told9 .given .1)
+reads-right c = goes-on _ _ _ (block-right (c .before .before .before)) (reads-asked (c .before .before)) (c .enum-told9 .given .1)
 
 returns-5 : tie.Need-returns-5
 unfolding requestRefusals
-returns-5 c = judged-as (asked (c .before .before .before .before .before .before .before .before .before .before .before .before .before .before .before)) (ends-here requestChecks _ _ _ (block-right (c .before .before .before)) (reads-asked (c .before .before)) (c .enum-told10 .given .1))
+returns-5 c = judged-as (asked (c .before .before .before .before .before .before .before .before .before .before .before .before .before .before .before)) (ends-here _ _ _ (block-right (c .before .before .before)) (reads-asked (c .before .before)) (c .enum-told10 .given .1))
 
 returns-6 : tie.Need-returns-6
 unfolding requestRefusals firstRefusal

@@ -20,8 +20,9 @@ use Rattle.model.specs.declared.Answer.the-variants.{Refused}
 use Rattle.model.proofs.Soundness.{sound-parts}
 use Rattle.model.proofs.StepRefusals.{step-refusal-by, step-refused}
 use Rattle.board.specs.Answering.{answered}
-use Rattle.board.proofs.Checking.{passed, failed}
-use Rattle.board.proofs.Responding.{Within, leaves, steps, refused-number, accepted-places, password-short, within}
+use Rattle.framing.proofs.Refusals.{passed, failed}
+use Rattle.framing.proofs.Answers.{Within, refused-number, accepted-places, within}
+use Rattle.board.proofs.Responding.{leaves, steps, password-short}
 use Rattle.board.proofs.Responses.{answered-outcome}
 use Rattle.board.proofs.packets.packet.Statement.{statement}
 use Rattle.board.proofs.packets.packet.Tie as tie

@@ -8,7 +8,8 @@ use Rattle.board.specs.Answering.{respondedWith}
 use Rattle.model.specs.Step.{requestOf}
 use Rattle.commands.specs.declared.Ran.{Ran}
 use Rattle.model.specs.declared.Answer.the-variants.{Response}
-use Rattle.board.proofs.Responding.{leaves, ran-inside, responded-over, responded-silent, responded-long, responded-full, frame-written, frame-not-written}
+use Rattle.board.proofs.Responding.{leaves, ran-inside, responded-over, responded-silent, responded-long, responded-full}
+use Rattle.framing.proofs.Answers.{frame-written, frame-not-written}
 use borrow.Author.Needs.{needs}
 use Rattle.board.proofs.packets.respond.Statement.{statement}
 use Rattle.board.proofs.packets.respond.Tie as tie

@@ -9,8 +9,8 @@ use lib.ListN.{length, take}
 use lib.Seq.{length-take-le}
 use Rattle.octets.proofs.Booleans.{both-true}
 use Rattle.framing.specs.Identity.{allAlphanumeric}
-use Rattle.board.specs.Answering.{checked}
-use Rattle.board.proofs.Checking.{passed, failed}
+use Rattle.framing.specs.Refusal.{checked}
+use Rattle.framing.proofs.Refusals.{passed, failed}
 use Rattle.board.proofs.Starting.{unsound-id, unsound-size, unsound-password, unsound-mode, unsound-entries, sound-rows, wrong-characters}
 use borrow.Author.Needs.{needs}
 use Rattle.board.proofs.records.check_record.Statement.{statement}

@@ -6,8 +6,7 @@ use mathlib.Core.List.{List}
 use Prim.Native.Nat.{ℕ}
 use Rattle.octets.specs.Octets.{same}
 use Rattle.store.specs.Layout.{valueOf}
-use Rattle.store.specs.Sound.{sound as rowsSound}
-use Rattle.board.specs.Answering.{checked}
+use Rattle.framing.specs.Refusal.{checked}
 use Rattle.model.specs.Record.{micra}
 use borrow.Author.Needs.{needs}
 use Rattle.board.proofs.records.check_rows.Statement.{statement}

@@ -3,7 +3,7 @@ use mathlib.Core.Path.{refl, _∙_}
 use borrow.Author.Tests.{not-false}
 use denote.Ref.{now}
 use Rattle.model.specs.Record.{setUp}
-use Rattle.board.proofs.Checking.{passed, failed}
+use Rattle.framing.proofs.Refusals.{passed, failed}
 use Rattle.board.proofs.Starting.{set-up-refusal-by, refused-set-up, record-start, accepted-set-up}
 use borrow.Author.Needs.{needs}
 use Rattle.board.proofs.records.set_up.Statement.{statement}
