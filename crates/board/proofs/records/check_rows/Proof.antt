@@ -6,7 +6,6 @@ use mathlib.Core.List.{List}
 use Prim.Native.Nat.{ℕ}
 use Rattle.octets.specs.Octets.{same}
 use Rattle.store.specs.Layout.{valueOf}
-use Rattle.store.specs.Sound.{sound as rowsSound}
 use Rattle.board.specs.Answering.{checked}
 use Rattle.model.specs.Record.{micra}
 use borrow.Author.Needs.{needs}
