@@ -2,15 +2,16 @@
 use Prim.Native.Nat.{ℕ, _+_, _-_, _≤_}
 use native.Mathlib.Omega.{arith}
 use mathlib.Core.Bool.{Bool, true, false, cond, not, _&&_}
-use mathlib.Core.List.{List}
+use mathlib.Core.List.{List, _++_}
 use mathlib.Core.Option.{Option, none, some}
 use mathlib.Core.Path.{_≡_, refl, sym, ap, _∙_}
 use borrow.Author.Tests.{eq-eqb, ne-eqb, leb-true, not-false}
-use lib.ListN.{length, drop, length-take}
+use lib.ListN.{length, drop, replicate, take, length-take}
+use lib.Seq.{take-at}
 use Rattle.octets.proofs.Booleans.{both-true}
 use Rattle.octets.proofs.Overwriting.{length-overwrite}
 use Rattle.octets.specs.Octets.{overwrite, same}
-use Rattle.framing.specs.Frame.{packetOf}
+use Rattle.framing.specs.Frame.{Frame, packetOf}
 use Rattle.framing.specs.Packet.{writable}
 use Rattle.framing.specs.Refusal.{firstRefusal, checked}
 use Rattle.framing.specs.Packet.{frameOf, packetRefusal, passwordSize}
@@ -24,8 +25,8 @@ use Rattle.block.proofs.AllReads.{other-named}
 use Rattle.board.specs.Answering.{Leaves, answered, answeredAs, inIdentity, judged, judgedBy, refusedWith, requestChecks, respondedIn, respondedWith, responseOf, scopeOf}
 use Rattle.model.specs.Commands.{run}
 use Rattle.commands.specs.Draft.{blank, exceeded, extended, ranBehind, ranBlock, ranOf, runReportsIn, taken}
-use Rattle.model.specs.Record.{passwordOf, withParameters}
-use Rattle.model.specs.Step.{Call, Outcome, Request, Steps, step, outcomeOf, isDiscovery, wrongPassword, malformed, discoveryWrites}
+use Rattle.model.specs.Record.{passwordOf, setUp, startBoard, withParameters}
+use Rattle.model.specs.Step.{Call, Outcome, Request, Steps, step, outcomeOf, isDiscovery, wrongPassword, malformed, discoveryWrites, requestOf, requestRefusals}
 use Rattle.model.specs.declared.Answer.{Answer}
 use Rattle.model.specs.declared.Answer.the-variants.{Response, Silence}
 use Rattle.model.specs.declared.Board.{Board}
@@ -85,9 +86,17 @@ module _ (ran : Ran) (r : Request) (buffer : List ℕ) where
       ≡ outcomeOf (withParameters (r .board) (ran .parameters)) (Response (length (packetOf (responseOf ran r)))) (overwrite buffer 0 (packetOf (responseOf ran r)))
   responded-full e h w = ap (λ (room : Room). respondedIn room ran r buffer) e ∙ rw (ne-eqb _ _ h, w)
 
+-- the password of a start record, and a judgement that knows only ID, password and mode
+pub own-password : (password : List ℕ) → password ≡ take (length password) (password ++ replicate (8 - length password) 0)
+own-password password = sym (take-at password _ _ refl)
+
+pub judged-by-identity : (board : Board) (f : Frame) → judged (requestOf (startBoard (setUp (board .id) (passwordOf board) (board .mode))) f) ≡ judged (requestOf board f)
+unfolding requestRefusals firstRefusal
+judged-by-identity board f = rw (← own-password (passwordOf board))
+
 -- a judgement by its refusal, and a request by its judgement
-pub judged-as : (r : Request) {refusal : Option ℕ} → firstRefusal requestChecks r ≡ refusal → judgedBy refusal r ≡ judged r
-judged-as r e = ap (λ (refusal : Option ℕ). judgedBy refusal r) (sym e)
+pub judged-as : (r : Request) {refusal : Option ℕ} → firstRefusal requestChecks r ≡ refusal → judgedBy refusal (scopeOf (isDiscovery r)) ≡ judged r
+judged-as r e = ap (λ (refusal : Option ℕ). judgedBy refusal (scopeOf (isDiscovery r))) (sym e)
 
 pub answered-by : (r : Request) (buffer : List ℕ) {judgement : Judged} → judgement ≡ judged r → answered r buffer ≡ answeredAs judgement r buffer
 answered-by r buffer e = ap (λ (judgement : Judged). answeredAs judgement r buffer) (sym e)

@@ -288,7 +288,7 @@ module _ (r : Request) (buffer : List ℕ) (legal : sound (r .board) ≡ true) (
 
     by-checks :
         (refusal : Option ℕ) → firstRefusal requestChecks r ≡ refusal
-        → answeredAs (judgedBy refusal r) r buffer ≡ outcomeBy (orElse refusal (cond (longResponse r) (some 12) none)) r buffer
+        → answeredAs (judgedBy refusal (scopeOf (isDiscovery r))) r buffer ≡ outcomeBy (orElse refusal (cond (longResponse r) (some 12) none)) r buffer
     unfolding requestRefusals orElse
     by-checks (some number) e = refl
     by-checks none e =

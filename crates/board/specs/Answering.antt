@@ -1,22 +1,19 @@
 -- How the code goes through a call: the scope of its checks, and what it makes of a request.
-use Prim.Native.Nat.{ℕ, _-_}
+use Prim.Native.Nat.{ℕ}
 use mathlib.Core.Bool.{Bool, true, false, cond}
-use mathlib.Core.List.{List, [], _++_}
+use mathlib.Core.List.{List}
 use mathlib.Core.Option.{Option, none, some}
 use mathlib.Core.Path.{_≡_}
-use lib.Dec.{leb, eqb}
-use lib.ListN.{length, take, replicate}
+use lib.Dec.{eqb}
+use lib.ListN.{length, take}
 use Rattle.octets.specs.Octets.{overwrite}
 use Rattle.framing.specs.Frame.{Frame, frame, packetOf}
 use Rattle.framing.specs.Packet.{writable}
 use Rattle.framing.specs.Refusal.{Refusal, firstRefusal}
-use Rattle.store.specs.Start.{start}
-use Rattle.schedule.specs.Entries as entries
 use Rattle.commands.specs.Draft.{ranBlock}
-use Rattle.model.specs.Record.{parametersOf, withParameters}
+use Rattle.model.specs.Record.{withParameters}
 use Rattle.model.specs.Step.{Request, Outcome, outcomeOf, isDiscovery, requestRefusals}
 use Rattle.model.specs.declared.Answer.the-variants.{Refused, Silence, Response}
-use Rattle.model.specs.declared.Board.{Board}
 use Rattle.model.specs.declared.Stepped.{Stepped}
 use Rattle.board.specs.declared.packets.Judged.{Judged}
 use Rattle.board.specs.declared.packets.Judged.the-variants.{Refused as No, Passed as Yes}
@@ -32,20 +29,6 @@ scopeOf discovery = cond discovery Identity All
 abbrev pub inIdentity : Scope → Bool
 inIdentity All = false
 inIdentity Identity = true
-
--- bytes in an array of a size, the rest zero
-abbrev pub laid : ℕ → List ℕ → List ℕ
-laid size bytes = cond (leb (length bytes) size) (bytes ++ replicate (size - length bytes) 0) (replicate size 0)
-
-abbrev pub recordOf : List ℕ → List ℕ → ℕ → Board
-recordOf id password mode =
-    record {
-      id = laid 16 id;
-      password = laid 8 password;
-      size = length (cond (leb (length password) 8) password []);
-      mode = mode;
-      parameters = parametersOf (start (laid 16 id)) entries.start;
-    }
 
 abbrev pub refusedWith : ℕ → Request → List ℕ → Outcome
 refusedWith number r buffer = outcomeOf (r .board) (Refused number) buffer
@@ -72,12 +55,12 @@ responded scope r buffer = respondedWith (ranBlock scope (r .board .parameters) 
 abbrev pub requestChecks : List (Refusal Request)
 requestChecks = take 5 requestRefusals
 
-abbrev pub judgedBy : Option ℕ → Request → Judged
-judgedBy (some number) r = No number
-judgedBy none r = Yes (scopeOf (isDiscovery r))
+abbrev pub judgedBy : Option ℕ → Scope → Judged
+judgedBy (some number) scope = No number
+judgedBy none scope = Yes scope
 
 abbrev pub judged : Request → Judged
-judged r = judgedBy (firstRefusal requestChecks r) r
+judged r = judgedBy (firstRefusal requestChecks r) (scopeOf (isDiscovery r))
 
 -- the number of a refused request
 abbrev pub numberJudged : Judged → ℕ

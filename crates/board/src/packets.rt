@@ -13,7 +13,7 @@ ghost use Prim.Native.Nat.{_≤_};
 ghost use mathlib.Core.Path.{_≡_};
 ghost use Rattle.framing.specs.Frame.{frame};
 ghost use Rattle.board.specs.Answering.{Leaves, answered, judged, numberJudged, responded};
-ghost use Rattle.model.specs.Record.{passwordOf};
+ghost use Rattle.model.specs.Record.{setUp, startBoard};
 ghost use Rattle.model.specs.Step.{Steps, call, requestOf};
 
 // What the checks make of a request: the number of its refusal, or which parameters it may have reported.
@@ -69,23 +69,22 @@ fn respond(
     }
 }
 
-// The checks of a request, 7 to 11.
+// The checks of a request, 7 to 11, to a board of this ID, password and mode.
 fn judge(
-    board: Board,
+    own: &[u8],
     secret: &[u8],
+    mode: u8,
     id: &[u8],
     password: &[u8],
     function: u8,
     bytes: &[u8],
 ) -> Judged
-    requires { ⌜ now secret ≡ passwordOf board ⌝ }
-    ensures { λ r. ⌜ r ≡ judged (requestOf board (frame (now (id .entry)) (now (password .entry)) function (now (bytes .entry)))) ⌝ }
+    ensures { λ r. ⌜ r ≡ judged (requestOf (startBoard (setUp (now (own .entry)) (now (secret .entry)) mode)) (frame (now (id .entry)) (now (password .entry)) function (now (bytes .entry)))) ⌝ }
 {
-    let own = board.id;
-    let Check::Passed = checks::check_address(&own, id) else {
+    let Check::Passed = checks::check_address(own, id) else {
         return Judged::Refused(7);
     };
-    let scope = checks::scope_of(board.mode, id);
+    let scope = checks::scope_of(mode, id);
     let Check::Passed = checks::check_password(scope, secret, password) else {
         return Judged::Refused(8);
     };
@@ -122,10 +121,11 @@ fn answer(
     requires { ⌜ board .size ≤ 8 ⌝ }
     ensures { λ r. ⌜ Leaves (answered (requestOf board (frame (now (id .entry)) (now (password .entry)) function (now (bytes .entry)))) (now (response .entry))) r (now (response .exit)) ⌝ }
 {
+    let own = board.id;
     let stored = board.password;
     let size = octets::wide(board.size);
     let secret = &stored[..size];
-    let judged = judge(board, secret, id, password, function, bytes);
+    let judged = judge(&own, secret, board.mode, id, password, function, bytes);
     let Judged::Passed(scope) = judged else {
         return refused(board, number_judged(judged));
     };

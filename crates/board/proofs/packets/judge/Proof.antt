@@ -5,27 +5,25 @@ use denote.Ref.{now}
 use lib.ListN.{drop}
 use Rattle.framing.specs.Frame.{frame}
 use Rattle.framing.specs.Refusal.{firstRefusal}
+use Rattle.model.specs.Record.{setUp, startBoard}
 use Rattle.model.specs.Step.{Request, requestOf, requestRefusals, discoveryWrites, wrongPassword}
 use Rattle.framing.specs.Refusal.{checked}
 use Rattle.board.specs.Answering.{requestChecks}
 use Rattle.board.specs.declared.packets.Judged.the-variants.{Passed}
 use Rattle.framing.proofs.Refusals.{passed, goes-on, ends-here}
-use Rattle.board.proofs.Responding.{judged-as, password-told, reads-told}
+use Rattle.board.proofs.Responding.{judged-as, own-password, password-told, reads-told}
 use borrow.Author.Needs.{needs}
 use Rattle.board.proofs.packets.judge.Statement.{statement}
 use Rattle.board.proofs.packets.judge.Tie as tie
 
 abbrev asked : tie.After-check-address → Request
 asked c =
-    let args = c .before .before .before .before .before .before .before .args in
-    requestOf (args .board) (frame (now (args .id)) (now (args .password)) (args .function) (now (args .bytes)))
+    let args = c .before .before .before .before .before .before .args in
+    requestOf (startBoard (setUp (now (args .own)) (now (args .secret)) (args .mode))) (frame (now (args .id)) (now (args .password)) (args .function) (now (args .bytes)))
 
 -- the first checks do not refuse
 abbrev Unrefused : ℕ → Request → Type 0
 Unrefused count r = firstRefusal requestChecks r ≡ firstRefusal (drop count requestChecks) r
-
-slice-aggregate-check-address : tie.Need-slice-aggregate-check-address
-slice-aggregate-check-address c = search needs
 
 check-address-requires : tie.Need-check-address-requires
 check-address-requires c κs = search needs
@@ -57,7 +55,7 @@ enum-told-4 : tie.Need-enum-told-4
 enum-told-4 c = search needs
 
 password-asked : (c : tie.After-check-password) → c .check-password .result ≡ checked (wrongPassword (asked (c .before .before .before .before)))
-password-asked c = password-told (asked (c .before .before .before .before)) (c .before .scope-of .ensures) (c .before .before .before .before .before .before .before .before .before .before .before .pre) (c .check-password .ensures)
+password-asked c = password-told (asked (c .before .before .before .before)) (c .before .scope-of .ensures) (own-password (now (c .before .before .before .before .before .before .before .before .before .before .args .secret))) (c .check-password .ensures)
 
 password-right : (c : tie.After-enum-told3) → Unrefused 2 (asked (c .before .before .before .before .before .before))
 unfolding requestRefusals
@@ -131,7 +129,6 @@ pub judge-spec : {M : Type 1} → statement M
 judge-spec =
     tie.close
     (tie.spec
-    slice-aggregate-check-address
     check-address-requires
     enum-told
     enum-told-2
