@@ -121,7 +121,7 @@ module _ (r : Request) {scope : Scope} (told : scope ≡ scopeOf (isDiscovery r)
       {check : Check} → malformed r ≡ false → check ≡ checked (inIdentity scope && not (onlyReads (r .frame .function) (r .frame .block)))
       → check ≡ checked (discoveryWrites r)
   reads-told formed e =
-      e ∙ (λ i. checked (is-discovery i && sym (other-named (r .frame .function) (r .frame .block) (not-false _ formed)) i))
+      e ∙ (λ i. checked (is-discovery i && sym (other-named (r .frame .function) (r .frame .block) .formed (not-false _ formed)) i))
 
 pub password-short : (packet : List ℕ) → packetRefusal packet ≡ none → length (frameOf packet .password) ≤ 8
 password-short packet right =

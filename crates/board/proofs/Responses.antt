@@ -276,7 +276,7 @@ module _ (r : Request) (buffer : List ℕ) (legal : sound (r .board) ≡ true) (
         → (discovery && otherThanReads (r .frame)) ≡ false
         → responded (scopeOf discovery) r buffer ≡ outcomeBy (cond (longResponse r) (some 12) none) r buffer
     responds-by true d formed reads =
-        let only : not (onlyReads (r .frame .function) (r .frame .block)) ≡ false = sym (other-named (r .frame .function) (r .frame .block) (not-false _ formed)) ∙ reads in
+        let only : not (onlyReads (r .frame .function) (r .frame .block)) ≡ false = sym (other-named (r .frame .function) (r .frame .block) .formed (not-false _ formed)) ∙ reads in
         let (cs, e, all) = all-reads (r .frame .function) (r .frame .block) (not-false _ only) in
         let parts = sound-parts (r .board) legal in
         run-responds Identity cs e

@@ -120,7 +120,7 @@ discovery-answered c passes board-sound mode asked formed reads room short =
     (ap (λ (t : Bool). not t && not (same (r .frame .password) (passwordOf (c .board)))) discovery)
     (ap (λ (f : ℕ). not (isFunction f)) one)
     (ap not formed)
-    (ap (λ (t : Bool). t && namesOther (r .frame .function) (r .frame .block)) discovery ∙ other-named (r .frame .function) (r .frame .block) formed ∙ ap not reads)
+    (ap (λ (t : Bool). t && namesOther (r .frame .function) (r .frame .block)) discovery ∙ other-named (r .frame .function) (r .frame .block) .formed formed ∙ ap not reads)
     (le-ltb 256 _ short))))
 
 pub requests-agree : RequestsAgree
