@@ -1,4 +1,3 @@
-pub mod Checking
 pub mod Starting
 pub mod Responding
 pub mod Responses

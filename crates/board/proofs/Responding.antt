@@ -1,39 +1,39 @@
 -- What the code makes of a request, case by case.
-use Prim.Native.Nat.{ℕ, _+_, _-_, _<_, _≤_}
+use Prim.Native.Nat.{ℕ, _+_, _-_, _≤_}
 use native.Mathlib.Omega.{arith}
 use mathlib.Core.Bool.{Bool, true, false, cond, not, _&&_}
-use mathlib.Core.List.{List}
+use mathlib.Core.List.{List, _++_}
 use mathlib.Core.Option.{Option, none, some}
 use mathlib.Core.Path.{_≡_, refl, sym, ap, _∙_}
-use borrow.Author.Tests.{eq-eqb, ne-eqb, leb-true}
-use lib.ListN.{length, drop, length-take}
+use borrow.Author.Tests.{eq-eqb, ne-eqb, leb-true, not-false}
+use lib.ListN.{length, drop, replicate, take, length-take}
+use lib.Seq.{take-at}
 use Rattle.octets.proofs.Booleans.{both-true}
 use Rattle.octets.proofs.Overwriting.{length-overwrite}
 use Rattle.octets.specs.Octets.{overwrite, same}
 use Rattle.framing.specs.Frame.{Frame, packetOf}
-use Rattle.framing.specs.Packet.{Writes, writable}
-use Rattle.framing.specs.declared.Written.{Written}
-use Rattle.framing.specs.declared.Written.the-variants.{Length, NoPacket}
-use Rattle.framing.specs.Packet.{frameOf, packetRefusal, parsedAs, passwordSize, placesOf}
-use Rattle.framing.specs.declared.Parsed.{Parsed}
+use Rattle.framing.specs.Packet.{writable}
+use Rattle.framing.specs.Refusal.{firstRefusal, checked}
+use Rattle.framing.specs.Packet.{frameOf, packetRefusal, passwordSize}
 use Rattle.framing.specs.declared.Parsed.the-variants as read
-use Rattle.framing.specs.declared.Places.{Places}
-use Rattle.framing.proofs.Checks.{within-lengths, within-sizes}
+use Rattle.framing.proofs.Checks.{within-sizes}
 use Rattle.framing.proofs.WritesRead.{accepted}
 use Rattle.block.specs.Command.{Command}
 use Rattle.block.specs.Encoding.{encodableReport, encodeReports, every}
 use Rattle.block.specs.Request.{commands, onlyReads}
-use Rattle.board.specs.Answering.{Leaves, answered, checked, inIdentity, numberIn, refusedWith, responded, respondedIn, respondedWith, responseOf, scopeOf}
+use Rattle.block.proofs.AllReads.{other-named}
+use Rattle.board.specs.Answering.{Leaves, answered, answeredAs, inIdentity, judged, judgedBy, refusedWith, requestChecks, respondedIn, respondedWith, responseOf, scopeOf}
 use Rattle.model.specs.Commands.{run}
 use Rattle.commands.specs.Draft.{blank, exceeded, extended, ranBehind, ranBlock, ranOf, runReportsIn, taken}
-use Rattle.model.specs.Record.{passwordOf, withParameters}
-use Rattle.model.specs.Step.{Call, Outcome, Request, Steps, step, outcomeOf, isDiscovery, otherId, wrongPassword, wrongFunction, malformed, discoveryWrites}
+use Rattle.model.specs.Record.{passwordOf, setUp, startBoard, withParameters}
+use Rattle.model.specs.Step.{Call, Outcome, Request, Steps, step, outcomeOf, isDiscovery, wrongPassword, malformed, discoveryWrites, requestOf, requestRefusals}
 use Rattle.model.specs.declared.Answer.{Answer}
-use Rattle.model.specs.declared.Answer.the-variants.{Refused, Response, Silence}
+use Rattle.model.specs.declared.Answer.the-variants.{Response, Silence}
 use Rattle.model.specs.declared.Board.{Board}
 use Rattle.model.specs.declared.Parameters.{Parameters}
 use Rattle.model.specs.declared.Stepped.{Stepped}
-use Rattle.board.specs.declared.checks.Check.{Check}
+use Rattle.framing.specs.declared.Check.{Check}
+use Rattle.board.specs.declared.packets.Judged.{Judged}
 use Rattle.commands.specs.declared.Ran.{Ran}
 use Rattle.commands.specs.declared.Scope.{Scope}
 use Rattle.commands.specs.declared.draft.Room.{Room}
@@ -86,40 +86,20 @@ module _ (ran : Ran) (r : Request) (buffer : List ℕ) where
       ≡ outcomeOf (withParameters (r .board) (ran .parameters)) (Response (length (packetOf (responseOf ran r)))) (overwrite buffer 0 (packetOf (responseOf ran r)))
   responded-full e h w = ap (λ (room : Room). respondedIn room ran r buffer) e ∙ rw (ne-eqb _ _ h, w)
 
--- what framing's writer answered
-written-by : (yes : Bool) {answer : Written} {size length : ℕ} → answer ≡ cond yes (Length size) NoPacket → answer ≡ Length length → (yes ≡ true) × (length ≡ size)
-written-by true e h = (refl, cc)
-written-by false e h = ((cc), (cc))
+-- the password of a start record, and a judgement that knows only ID, password and mode
+pub own-password : (password : List ℕ) → password ≡ take (length password) (password ++ replicate (8 - length password) 0)
+own-password password = sym (take-at password _ _ refl)
 
-not-written-by : (yes : Bool) {answer : Written} (size : ℕ) → answer ≡ cond yes (Length size) NoPacket → answer ≡ NoPacket → yes ≡ false
-not-written-by true size e h = cc
-not-written-by false size e h = refl
+pub judged-by-identity : (board : Board) (f : Frame) → judged (requestOf (startBoard (setUp (board .id) (passwordOf board) (board .mode))) f) ≡ judged (requestOf board f)
+unfolding requestRefusals firstRefusal
+judged-by-identity board f = rw (← own-password (passwordOf board))
 
-pub frame-written : {f : Frame} {buffer after : List ℕ} {answer : Written} {written : ℕ} → Writes f buffer answer after → answer ≡ Length written → (writable f buffer ≡ true) × (written ≡ length (packetOf f))
-frame-written {f} {buffer} d h = written-by (writable f buffer) (d .answered) h
+-- a judgement by its refusal, and a request by its judgement
+pub judged-as : (r : Request) {refusal : Option ℕ} → firstRefusal requestChecks r ≡ refusal → judgedBy refusal (scopeOf (isDiscovery r)) ≡ judged r
+judged-as r e = ap (λ (refusal : Option ℕ). judgedBy refusal (scopeOf (isDiscovery r))) (sym e)
 
-pub frame-not-written : {f : Frame} {buffer after : List ℕ} {answer : Written} → Writes f buffer answer after → answer ≡ NoPacket → (writable f buffer ≡ false) × (after ≡ buffer)
-frame-not-written {f} {buffer} {after} d h =
-    let no : writable f buffer ≡ false = not-written-by (writable f buffer) _ (d .answered) h in
-    (no, d .held ∙ rw no)
-
--- a request by the five checks before its response
-pub answered-by :
-    (r : Request) (buffer : List ℕ) {id-wrong password-wrong function-wrong block-wrong reads-wrong : Bool} → otherId r ≡ id-wrong → wrongPassword r ≡ password-wrong
-    → wrongFunction r ≡ function-wrong → malformed r ≡ block-wrong → discoveryWrites r ≡ reads-wrong
-    → answered r buffer
-    ≡ cond id-wrong (refusedWith 7 r buffer)
-    (cond password-wrong (refusedWith 8 r buffer)
-    (cond function-wrong (refusedWith 9 r buffer)
-    (cond block-wrong (refusedWith 10 r buffer)
-    (cond reads-wrong (refusedWith 11 r buffer) (responded (scopeOf (isDiscovery r)) r buffer)))))
-unfolding answered
-answered-by r buffer a b c d e =
-    λ i. cond (a i) (refusedWith 7 r buffer)
-    (cond (b i) (refusedWith 8 r buffer)
-    (cond (c i) (refusedWith 9 r buffer)
-    (cond (d i) (refusedWith 10 r buffer)
-    (cond (e i) (refusedWith 11 r buffer) (responded (scopeOf (isDiscovery r)) r buffer)))))
+pub answered-by : (r : Request) (buffer : List ℕ) {judgement : Judged} → judgement ≡ judged r → answered r buffer ≡ answeredAs judgement r buffer
+answered-by r buffer e = ap (λ (judgement : Judged). answeredAs judgement r buffer) (sym e)
 
 -- a scope tells whether there is a discovery
 scope-told : (discovery : Bool) → inIdentity (scopeOf discovery) ≡ discovery
@@ -131,35 +111,17 @@ module _ (r : Request) {scope : Scope} (told : scope ≡ scopeOf (isDiscovery r)
   is-discovery : inIdentity scope ≡ isDiscovery r
   is-discovery = ap inIdentity told ∙ scope-told (isDiscovery r)
 
-  pub password-told : {check : Check} → check ≡ checked (not (inIdentity scope) && not (same (r .frame .password) (passwordOf (r .board)))) → check ≡ checked (wrongPassword r)
-  password-told e = e ∙ ap (λ (discovery : Bool). checked (not discovery && not (same (r .frame .password) (passwordOf (r .board))))) is-discovery
+  pub password-told :
+      {own : List ℕ} {check : Check} → own ≡ passwordOf (r .board) → check ≡ checked (not (inIdentity scope) && not (same (r .frame .password) own))
+      → check ≡ checked (wrongPassword r)
+  password-told own e = e ∙ (λ i. checked (not (is-discovery i) && not (same (r .frame .password) (own i))))
 
-  pub reads-told : {check : Check} → check ≡ checked (inIdentity scope && not (onlyReads (r .frame .function) (r .frame .block))) → check ≡ checked (discoveryWrites r)
-  reads-told e = e ∙ ap (λ (discovery : Bool). checked (discovery && not (onlyReads (r .frame .function) (r .frame .block)))) is-discovery
-
--- what framing's reader answered
-pub refused-number : (refusal : Option ℕ) (places : Places) {parsed : Parsed} {number : ℕ} → parsed ≡ parsedAs refusal places → parsed ≡ read.Refused number → refusal ≡ some (numberIn parsed)
-refused-number (some n) places e h = ap (λ (p : Parsed). some (numberIn p)) (sym e)
-refused-number none places e h = cc
-
-pub accepted-places : (refusal : Option ℕ) {given places : Places} {parsed : Parsed} → parsed ≡ parsedAs refusal given → parsed ≡ read.Frame places → (refusal ≡ none) × (places ≡ given)
-accepted-places (some n) e h = ((cc), (cc))
-accepted-places none e h = (refl, cc)
-
--- a packet that is read keeps its parts within its bytes
-pub record Within (packet : List ℕ) (places : Places) : Type 0 where
-  pub id : places .id + 16 ≤ length packet
-  pub password : places .password ≤ places .function
-  pub function : places .function < length packet
-  pub block : places .block ≤ places .end
-  pub end : places .end ≤ length packet
-
-pub within : (packet : List ℕ) {places : Places} → packetRefusal packet ≡ none → places ≡ placesOf packet → Within packet places
-within packet right e =
-    let known = accepted packet right in
-    let lengths = within-lengths packet (known .length-right) in
-    let sizes = within-sizes packet (known .size-right) in
-    rw e (record { id = omega arith; password = omega arith; function = omega arith; block = omega arith; end = omega arith })
+  -- 11 where 10 is passed
+  pub reads-told :
+      {check : Check} → malformed r ≡ false → check ≡ checked (inIdentity scope && not (onlyReads (r .frame .function) (r .frame .block)))
+      → check ≡ checked (discoveryWrites r)
+  reads-told formed e =
+      e ∙ (λ i. checked (is-discovery i && sym (other-named (r .frame .function) (r .frame .block) .formed (not-false _ formed)) i))
 
 pub password-short : (packet : List ℕ) → packetRefusal packet ≡ none → length (frameOf packet .password) ≤ 8
 password-short packet right =

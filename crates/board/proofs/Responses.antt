@@ -4,7 +4,7 @@ use native.Mathlib.Nat.{zero-add}
 use native.Mathlib.Omega.{arith}
 use mathlib.Core.Bool.{Bool, true, false, cond, not, _&&_, _||_}
 use mathlib.Core.List.{List, [], _∷_, _++_}
-use mathlib.Core.Option.{Option, none, some, Option·getD}
+use mathlib.Core.Option.{Option, none, some, orElse, Option·getD}
 use mathlib.Core.Path.{_≡_, refl, sym, ap, _∙_}
 use borrow.Author.Tests.{leb-false, ltb-true, ltb-false, eqb-true, le-leb, lt-leb, lt-ltb, le-ltb, eq-eqb, ne-eqb, not-false}
 use lib.Dec.{leb, ltb, eqb}
@@ -14,23 +14,25 @@ use Rattle.octets.specs.Octets.{overwrite, fits}
 use Rattle.octets.proofs.Booleans.{both-true}
 use Rattle.framing.specs.Frame.{Frame, frame, packetOf, packetLength}
 use Rattle.framing.specs.Packet.{writable}
-use Rattle.framing.specs.Refusal.{firstRefusal}
+use Rattle.framing.specs.Refusal.{Refusal, refusal, firstRefusal}
+use Rattle.framing.proofs.Refusals.{not-refused}
 use Rattle.framing.proofs.Writing.{length-packet}
 use Rattle.block.specs.Command.{Command, commandNumber, isRead, Report, held, unknown, reportPage}
 use Rattle.block.specs.Encoding.{change, reportBody, encodeReport, encodeReports, encodableReport, every}
 use Rattle.block.specs.Reading.{isSome}
 use Rattle.block.specs.Request.{onlyReads}
-use Rattle.block.proofs.AllReads.{all-reads}
+use Rattle.block.proofs.AllReads.{all-reads, other-named}
 use Rattle.block.proofs.LowBytes.{isLow, low-bytes}
 use Rattle.store.specs.Layout.{valueOf}
 use Rattle.store.specs.Rows.{rows, indexIn, known}
 use Rattle.store.specs.Sound as stored
-use Rattle.board.specs.Answering.{answered, refusedWith, respondedWith, responded, scopeOf}
+use Rattle.board.specs.Answering.{answered, answeredAs, judgedBy, refusedWith, requestChecks, respondedWith, responded, scopeOf}
 use Rattle.model.specs.Changes.{Sized}
 use Rattle.model.specs.Commands.{afterCommand, reported, run, runReports, discovered, discoverReports}
 use Rattle.commands.specs.Draft.{blank, taken, extended, exceeded, reportedIn, runReportsIn, selected, ranOf, ranBehind}
 use Rattle.model.specs.Record.{sound, micra, withParameters}
-use Rattle.model.specs.Step.{Request, isDiscovery, decoded, reportsOf, otherId, wrongPassword, wrongFunction, malformed, discoveryWrites, longResponse, requestRefusals, Outcome, outcomeOf, nextBoard, answerWith, outcomeBy}
+use Rattle.model.specs.Conditions.{otherThanReads}
+use Rattle.model.specs.Step.{Request, isDiscovery, decoded, reportsOf, malformed, longResponse, requestRefusals, Outcome, outcomeOf, nextBoard, answerWith, outcomeBy}
 use Rattle.model.specs.declared.Answer.the-variants.{Silence, Response}
 use Rattle.model.specs.declared.Board.{Board}
 use Rattle.model.specs.declared.Parameters.{Parameters}
@@ -40,7 +42,6 @@ use Rattle.commands.specs.declared.Scope.the-variants.{All, Identity}
 use Rattle.model.proofs.Changed.{read-keeps, values-reported}
 use Rattle.model.proofs.EncodableReports.{Fit, fit-after, encodable-join, encodable-reported}
 use Rattle.model.proofs.Soundness.{sound-parts, id-length}
-use Rattle.model.proofs.StepRefusals.{request-refusal-by}
 
 -- reads leave the parameters as they were
 reads-keep : (cs : List Command) (p : Parameters) → every isRead cs ≡ true → run p cs ≡ p
@@ -164,6 +165,23 @@ taken-blank reports encodable = λ i. encodable i && leb (zero-add (length (enco
 written-block : (bytes : List ℕ) → take (0 + length bytes) (overwrite (replicate 232 0) 0 bytes) ≡ bytes
 written-block bytes = take-at bytes (drop (0 + length bytes) (replicate 232 0)) (0 + length bytes) (sym (zero-add (length bytes)))
 
+-- refusals behind others come after them
+either :
+    (applies : Bool) (number : ℕ) (rest behind : Option ℕ)
+    → cond applies (some number) (orElse rest behind) ≡ orElse (cond applies (some number) rest) behind
+unfolding orElse
+either true number rest behind = refl
+either false number rest behind = refl
+
+join :
+    {Call : Type 0} (rows behind : List (Refusal Call)) (call : Call)
+    → firstRefusal (rows ++ behind) call ≡ orElse (firstRefusal rows call) (firstRefusal behind call)
+unfolding firstRefusal orElse
+join [] behind call = refl
+join (row ∷ rows) behind call =
+    ap (cond (row .applies call) (some (row .number))) (join rows behind call)
+    ∙ either (row .applies call) (row .number) (firstRefusal rows call) (firstRefusal behind call)
+
 some-commands : (o : Option (List Command)) → not (isSome o) ≡ false → (cs : List Command) × (o ≡ some cs)
 some-commands none h = let impossible : _≡_ {A = ℕ} 0 1 = cc in absurd (omega arith)
 some-commands (some cs) h = (cs, refl)
@@ -255,10 +273,11 @@ module _ (r : Request) (buffer : List ℕ) (legal : sound (r .board) ≡ true) (
 
     responds-by :
         (discovery : Bool) → isDiscovery r ≡ discovery → malformed r ≡ false
-        → (discovery && not (onlyReads (r .frame .function) (r .frame .block))) ≡ false
+        → (discovery && otherThanReads (r .frame)) ≡ false
         → responded (scopeOf discovery) r buffer ≡ outcomeBy (cond (longResponse r) (some 12) none) r buffer
     responds-by true d formed reads =
-        let (cs, e, all) = all-reads (r .frame .function) (r .frame .block) (not-false _ reads) in
+        let only : not (onlyReads (r .frame .function) (r .frame .block)) ≡ false = sym (other-named (r .frame .function) (r .frame .block) .formed (not-false _ formed)) ∙ reads in
+        let (cs, e, all) = all-reads (r .frame .function) (r .frame .block) (not-false _ only) in
         let parts = sound-parts (r .board) legal in
         run-responds Identity cs e
         (reports-by d e ∙ sym (identity-reports (r .board .id) (r .board .parameters) (parts .own-id) (parts .unit-type) cs all))
@@ -267,32 +286,23 @@ module _ (r : Request) (buffer : List ℕ) (legal : sound (r .board) ≡ true) (
         let (cs, e) = some-commands (decoded r) formed in
         run-responds All cs e (reports-by d e ∙ sym (all-reports cs (r .board .parameters))) (next-by d e)
 
-    behind-nine :
-        (block-malformed discovery-writes : Bool) → malformed r ≡ block-malformed → discoveryWrites r ≡ discovery-writes
-        → cond block-malformed (refusedWith 10 r buffer) (cond discovery-writes (refusedWith 11 r buffer) (responded (scopeOf (isDiscovery r)) r buffer))
-        ≡ outcomeBy (cond block-malformed (some 10) (cond discovery-writes (some 11) (cond (longResponse r) (some 12) none))) r buffer
-    behind-nine true discovery-writes m w = refl
-    behind-nine false true m w = refl
-    behind-nine false false m w = responds-by (isDiscovery r) refl m w
-
-    by-front :
-        (id-other password-wrong function-wrong : Bool) (behind : Option ℕ)
-        → cond id-other (refusedWith 7 r buffer) (cond password-wrong (refusedWith 8 r buffer) (cond function-wrong (refusedWith 9 r buffer) (outcomeBy behind r buffer)))
-        ≡ outcomeBy (cond id-other (some 7) (cond password-wrong (some 8) (cond function-wrong (some 9) behind))) r buffer
-    by-front true password-wrong function-wrong behind = refl
-    by-front false true function-wrong behind = refl
-    by-front false false true behind = refl
-    by-front false false false behind = refl
-
-    by-checks : answered r buffer ≡ outcomeBy (firstRefusal requestRefusals r) r buffer
-    unfolding answered
-    by-checks =
-        ap (λ (o : Outcome). cond (otherId r) (refusedWith 7 r buffer) (cond (wrongPassword r) (refusedWith 8 r buffer) (cond (wrongFunction r) (refusedWith 9 r buffer) o)))
-        (behind-nine (malformed r) (discoveryWrites r) refl refl)
-        ∙ by-front (otherId r) (wrongPassword r) (wrongFunction r) _
-        ∙ ap (λ (o : Option ℕ). outcomeBy o r buffer) (sym (request-refusal-by r refl refl refl refl refl refl))
+    by-checks :
+        (refusal : Option ℕ) → firstRefusal requestChecks r ≡ refusal
+        → answeredAs (judgedBy refusal (scopeOf (isDiscovery r))) r buffer ≡ outcomeBy (orElse refusal (cond (longResponse r) (some 12) none)) r buffer
+    unfolding requestRefusals orElse
+    by-checks (some number) e = refl
+    by-checks none e =
+        let seven = not-refused _ _ r e in
+        let eight = not-refused _ _ r (seven .1) in
+        let nine = not-refused _ _ r (eight .1) in
+        let ten = not-refused _ _ r (nine .1) in
+        let eleven = not-refused _ _ r (ten .1) in
+        responds-by (isDiscovery r) refl (ten .0) (eleven .0)
 
 pub answered-outcome :
     (r : Request) (buffer : List ℕ) → sound (r .board) ≡ true → Sized (r .board .parameters) → length (r .frame .password) ≤ 8 → 256 ≤ length buffer
     → answered r buffer ≡ outcomeBy (firstRefusal requestRefusals r) r buffer
-answered-outcome r buffer legal sized short room = by-checks r buffer legal short room sized
+unfolding requestRefusals firstRefusal
+answered-outcome r buffer legal sized short room =
+    by-checks r buffer legal short room sized (firstRefusal requestChecks r) refl
+    ∙ ap (λ (refusal : Option ℕ). outcomeBy refusal r buffer) (sym (join requestChecks (refusal 12 longResponse ∷ []) r))

@@ -1,5 +1,5 @@
 -- Laws of set-up and of a record's arrays.
-use Prim.Native.Nat.{ℕ, zero, suc, _+_, _-_, _≤_}
+use Prim.Native.Nat.{ℕ, zero, suc, _-_, _≤_}
 use native.Mathlib.Nat.{zero-add}
 use native.Mathlib.Numerals.{unary-clauses}
 use native.Mathlib.Omega.{arith}
@@ -7,14 +7,13 @@ use mathlib.Core.Bool.{Bool, true, false, cond, not, _&&_, and-false}
 use mathlib.Core.List.{List, [], _∷_, _++_, append-nil}
 use mathlib.Core.Option.{Option, none, some}
 use mathlib.Core.Path.{_≡_, refl, sym, ap, _∙_}
-use borrow.Author.Tests.{le-leb, leb-true, eqb-true, not-false}
+use borrow.Author.Tests.{le-leb, leb-true, eqb-true}
 use lib.Dec.{leb, eqb}
-use lib.ListN.{length, take, drop, replicate, length-replicate}
-use Rattle.octets.specs.Octets.{Overwrites, overwrite, same}
+use lib.ListN.{length, drop, replicate, length-replicate}
+use Rattle.octets.specs.Octets.{Overwrites, same}
 use Rattle.octets.proofs.Booleans.{both-true}
-use Rattle.framing.specs.Identity.{allAlphanumeric, defaultId, isPassword}
+use Rattle.framing.specs.Identity.{allAlphanumeric, isPassword}
 use Rattle.framing.specs.Refusal.{firstRefusal}
-use Rattle.board.specs.Answering.{laid, recordOf}
 use Rattle.store.specs.Layout.{sizeOf, valueOf}
 use Rattle.store.specs.Sound as rows
 use Rattle.schedule.specs.Entries as entries
@@ -38,8 +37,15 @@ drop-replicate (suc n) zero = let none-left : 0 - suc n ≡ 0 = omega arith in r
 drop-replicate (suc n) (suc m) = drop-replicate n m ∙ simp unary-clauses
 
 -- what `octets::overwrite` leaves of an array of zeros
-pub laid-by : (size : ℕ) (bytes : List ℕ) {answer : Bool} {after : List ℕ} → Overwrites (replicate size 0) 0 bytes answer after → after ≡ laid size bytes
-laid-by size bytes done = done .held ∙ rw (zero-add, length-replicate, drop-replicate)
+pub laid-by :
+    (size : ℕ) (bytes : List ℕ) {answer : Bool} {after : List ℕ} → length bytes ≤ size → Overwrites (replicate size 0) 0 bytes answer after
+    → after ≡ bytes ++ replicate (size - length bytes) 0
+laid-by size bytes short done = done .held ∙ rw (zero-add, length-replicate, drop-replicate, le-leb _ _ short)
+
+pub laid-whole : (size : ℕ) (bytes : List ℕ) {answer : Bool} {after : List ℕ} → length bytes ≡ size → Overwrites (replicate size 0) 0 bytes answer after → after ≡ bytes
+laid-whole size bytes e done =
+    let full : size - length bytes ≡ 0 = omega arith in
+    laid-by size bytes (omega arith) done ∙ rw (full, append-nil)
 
 -- the refusal of a set-up by its three conditions
 pub set-up-refusal-by :
@@ -56,13 +62,10 @@ pub accepted-set-up : (given : SetUp) {result : Answered} → setUpRefusal given
 unfolding setUpBoard
 accepted-set-up given e v b = record { answered = v ∙ ap verdictOf (sym e); made = b ∙ ap (λ (refusal : Option ℕ). boardOf refusal given) (sym e) }
 
--- an ID of 16 bytes fills its array, and a password its size
-pub record-start : (given : SetUp) → isId (given .id) ≡ true → isPassword (given .password) ≡ true → recordOf (given .id) (given .password) (given .mode) ≡ startBoard given
-record-start given id-right password-right =
-    let size : length (given .id) ≡ 16 = eqb-true _ _ (both-true (eqb (length (given .id)) 16) _ id-right .0) in
-    let whole : laid 16 (given .id) ≡ given .id = rw (size, append-nil) in
-    let short : leb (length (given .password)) 8 ≡ true = both-true (leb (length (given .password)) 8) _ password-right .0 in
-    rw (whole, short)
+-- the lengths that the start record wants
+pub right-lengths : (given : SetUp) → isId (given .id) ≡ true → isPassword (given .password) ≡ true → (length (given .id) ≡ 16) × (length (given .password) ≤ 8)
+right-lengths given id-right password-right =
+    (eqb-true _ _ (both-true (eqb (length (given .id)) 16) _ id-right .0), leb-true _ _ (both-true (leb (length (given .password)) 8) _ password-right .0))
 
 -- the refusal of a measurement by its three conditions
 pub measure-refusal-by :

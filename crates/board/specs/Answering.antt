@@ -1,33 +1,27 @@
--- How the code goes through a call: the answers of its checks, and what it makes of a request.
-use Prim.Native.Nat.{ℕ, _-_}
-use mathlib.Core.Bool.{Bool, true, false, cond, not, _&&_}
-use mathlib.Core.List.{List, [], _∷_, _++_}
+-- How the code goes through a call: the scope of its checks, and what it makes of a request.
+use Prim.Native.Nat.{ℕ}
+use mathlib.Core.Bool.{Bool, true, false, cond}
+use mathlib.Core.List.{List}
+use mathlib.Core.Option.{Option, none, some}
 use mathlib.Core.Path.{_≡_}
-use lib.Dec.{leb, eqb}
-use lib.ListN.{length, take, replicate}
+use lib.Dec.{eqb}
+use lib.ListN.{length, take}
 use Rattle.octets.specs.Octets.{overwrite}
 use Rattle.framing.specs.Frame.{Frame, frame, packetOf}
 use Rattle.framing.specs.Packet.{writable}
-use Rattle.framing.specs.declared.Parsed.{Parsed}
-use Rattle.framing.specs.declared.Parsed.the-variants.{Frame as Places, Refused as Not}
-use Rattle.store.specs.Start.{start}
-use Rattle.schedule.specs.Entries as entries
+use Rattle.framing.specs.Refusal.{Refusal, firstRefusal}
 use Rattle.commands.specs.Draft.{ranBlock}
-use Rattle.model.specs.Record.{parametersOf, withParameters}
-use Rattle.model.specs.Step.{Request, Outcome, outcomeOf, isDiscovery, otherId, wrongPassword, wrongFunction, malformed, discoveryWrites}
+use Rattle.model.specs.Record.{withParameters}
+use Rattle.model.specs.Step.{Request, Outcome, outcomeOf, isDiscovery, requestRefusals}
 use Rattle.model.specs.declared.Answer.the-variants.{Refused, Silence, Response}
-use Rattle.model.specs.declared.Board.{Board}
 use Rattle.model.specs.declared.Stepped.{Stepped}
-use Rattle.board.specs.declared.checks.Check.{Check}
-use Rattle.board.specs.declared.checks.Check.the-variants.{Passed, Failed}
+use Rattle.board.specs.declared.packets.Judged.{Judged}
+use Rattle.board.specs.declared.packets.Judged.the-variants.{Refused as No, Passed as Yes}
 use Rattle.commands.specs.declared.Ran.{Ran}
 use Rattle.commands.specs.declared.Scope.{Scope}
 use Rattle.commands.specs.declared.Scope.the-variants.{All, Identity}
 use Rattle.commands.specs.declared.draft.Room.{Room}
 use Rattle.commands.specs.declared.draft.Room.the-variants.{Left, Over}
-
-abbrev pub checked : Bool → Check
-checked wrong = cond wrong Failed Passed
 
 abbrev pub scopeOf : Bool → Scope
 scopeOf discovery = cond discovery Identity All
@@ -35,25 +29,6 @@ scopeOf discovery = cond discovery Identity All
 abbrev pub inIdentity : Scope → Bool
 inIdentity All = false
 inIdentity Identity = true
-
--- the number of a refused packet
-abbrev pub numberIn : Parsed → ℕ
-numberIn (Places places) = 0
-numberIn (Not number) = number
-
--- bytes in an array of a size, the rest zero
-abbrev pub laid : ℕ → List ℕ → List ℕ
-laid size bytes = cond (leb (length bytes) size) (bytes ++ replicate (size - length bytes) 0) (replicate size 0)
-
-abbrev pub recordOf : List ℕ → List ℕ → ℕ → Board
-recordOf id password mode =
-    record {
-      id = laid 16 id;
-      password = laid 8 password;
-      size = length (cond (leb (length password) 8) password []);
-      mode = mode;
-      parameters = parametersOf (start (laid 16 id)) entries.start;
-    }
 
 abbrev pub refusedWith : ℕ → Request → List ℕ → Outcome
 refusedWith number r buffer = outcomeOf (r .board) (Refused number) buffer
@@ -76,15 +51,29 @@ respondedWith ran r buffer = respondedIn (ran .draft .room) ran r buffer
 abbrev pub responded : Scope → Request → List ℕ → Outcome
 responded scope r buffer = respondedWith (ranBlock scope (r .board .parameters) (r .frame .function) (r .frame .block)) r buffer
 
+-- the refusals of a request but the last, 12, which is its response's
+abbrev pub requestChecks : List (Refusal Request)
+requestChecks = take 5 requestRefusals
+
+abbrev pub judgedBy : Option ℕ → Scope → Judged
+judgedBy (some number) scope = No number
+judgedBy none scope = Yes scope
+
+abbrev pub judged : Request → Judged
+judged r = judgedBy (firstRefusal requestChecks r) (scopeOf (isDiscovery r))
+
+-- the number of a refused request
+abbrev pub numberJudged : Judged → ℕ
+numberJudged (No number) = number
+numberJudged (Yes scope) = 0
+
+abbrev pub answeredAs : Judged → Request → List ℕ → Outcome
+answeredAs (No number) r buffer = refusedWith number r buffer
+answeredAs (Yes scope) r buffer = responded scope r buffer
+
 -- a request: the checks 7 to 11, then the response or 12
-unfoldable pub answered : Request → List ℕ → Outcome
-answered r buffer =
-    cond (otherId r) (refusedWith 7 r buffer)
-    (cond (wrongPassword r) (refusedWith 8 r buffer)
-    (cond (wrongFunction r) (refusedWith 9 r buffer)
-    (cond (malformed r) (refusedWith 10 r buffer)
-    (cond (discoveryWrites r) (refusedWith 11 r buffer)
-    (responded (scopeOf (isDiscovery r)) r buffer)))))
+abbrev pub answered : Request → List ℕ → Outcome
+answered r buffer = answeredAs (judged r) r buffer
 
 -- what a function over a lent buffer returned and left is this outcome
 pub record Leaves (outcome : Outcome) (result : Stepped) (after : List ℕ) : Type 0 where

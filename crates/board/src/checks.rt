@@ -1,19 +1,16 @@
 // The checks of the board's calls, each the condition of one refusal.
 use commands::Scope;
+use framing::Check;
 ghost use mathlib.Core.Bool.{not, _&&_, _||_};
 ghost use mathlib.Core.Path.{_≡_};
-ghost use lib.Dec.{eqb, leb, ltb};
+ghost use lib.Dec.{eqb, ltb};
 ghost use Rattle.octets.specs.Octets.{same};
 ghost use Rattle.framing.specs.Identity.{defaultId, isPassword};
-ghost use Rattle.block.specs.Reading.{isSome};
-ghost use Rattle.block.specs.Request.{commands, onlyReads};
-ghost use Rattle.board.specs.Answering.{checked, scopeOf, inIdentity};
+ghost use Rattle.block.specs.Command.{isFunction};
+ghost use Rattle.block.specs.Request.{wellFormed, onlyReads};
+ghost use Rattle.framing.specs.Refusal.{checked};
+ghost use Rattle.board.specs.Answering.{scopeOf, inIdentity};
 ghost use Rattle.model.specs.Record.{client, isId, isMode};
-
-pub enum Check {
-    Passed,
-    Failed,
-}
 
 // 20: an ID of 16 bytes that is not the default ID.
 pub(crate) fn check_id(id: &[u8]) -> Check
@@ -32,10 +29,7 @@ pub(crate) fn check_id(id: &[u8]) -> Check
 pub(crate) fn check_new_password(password: &[u8]) -> Check
     ensures { λ r. ⌜ r ≡ checked (not (isPassword (now (password .entry)))) ⌝ }
 {
-    if framing::is_password(password) {
-        return Check::Passed;
-    }
-    Check::Failed
+    framing::passed_if(framing::is_password(password))
 }
 
 // 22
@@ -92,15 +86,12 @@ pub(crate) fn check_password(scope: Scope, own: &[u8], password: &[u8]) -> Check
     let Scope::All = scope else {
         return Check::Passed;
     };
-    if octets::equal(password, own) {
-        return Check::Passed;
-    }
-    Check::Failed
+    framing::passed_if(octets::equal(password, own))
 }
 
 // 9
 pub(crate) fn check_function(function: u8) -> Check
-    ensures { λ r. ⌜ r ≡ checked (not (leb 1 function && leb function 5)) ⌝ }
+    ensures { λ r. ⌜ r ≡ checked (not (isFunction function)) ⌝ }
 {
     match function {
         1..=5 => Check::Passed,
@@ -110,23 +101,17 @@ pub(crate) fn check_function(function: u8) -> Check
 
 // 10
 pub(crate) fn check_block(function: u8, bytes: &[u8]) -> Check
-    ensures { λ r. ⌜ r ≡ checked (not (isSome (commands function (now (bytes .entry))))) ⌝ }
+    ensures { λ r. ⌜ r ≡ checked (not (wellFormed function (now (bytes .entry)))) ⌝ }
 {
-    if block::request::well_formed(bytes, function) {
-        return Check::Passed;
-    }
-    Check::Failed
+    framing::passed_if(block::request::well_formed(bytes, function))
 }
 
-// 11: a discovery only reads.
+// 11: a discovery only reads, where its block is well formed.
 pub(crate) fn check_reads(scope: Scope, function: u8, bytes: &[u8]) -> Check
     ensures { λ r. ⌜ r ≡ checked (inIdentity scope && not (onlyReads function (now (bytes .entry)))) ⌝ }
 {
     let Scope::Identity = scope else {
         return Check::Passed;
     };
-    if block::request::only_reads(bytes, function) {
-        return Check::Passed;
-    }
-    Check::Failed
+    framing::passed_if(block::request::only_reads(bytes, function))
 }

@@ -1,18 +1,26 @@
 // What a packet is answered with.
 use super::checks;
-use super::checks::Check;
 use super::records;
 use commands::Scope;
 use commands::draft::Room;
+use framing::Check;
 use framing::Parsed;
 use framing::Written;
 use model::Answer;
 use model::Board;
 use model::Stepped;
+ghost use Prim.Native.Nat.{_≤_};
 ghost use mathlib.Core.Path.{_≡_};
 ghost use Rattle.framing.specs.Frame.{frame};
-ghost use Rattle.board.specs.Answering.{Leaves, answered, numberIn, responded};
+ghost use Rattle.board.specs.Answering.{Leaves, answered, judged, numberJudged, responded};
+ghost use Rattle.model.specs.Record.{setUp, startBoard};
 ghost use Rattle.model.specs.Step.{Steps, call, requestOf};
+
+// What the checks make of a request: the number of its refusal, or which parameters it may have reported.
+enum Judged {
+    Refused(u8),
+    Passed(Scope),
+}
 
 fn refused(board: Board, number: u8) -> Stepped
     ensures { λ r. ⌜ (r .board ≡ board) × (r .answer ≡ Answer.Refused number) ⌝ }
@@ -61,7 +69,47 @@ fn respond(
     }
 }
 
-// The checks of a request, 7 to 11, and its response.
+// The checks of a request, 7 to 11, to a board of this ID, password and mode.
+fn judge(
+    own: &[u8],
+    secret: &[u8],
+    mode: u8,
+    id: &[u8],
+    password: &[u8],
+    function: u8,
+    bytes: &[u8],
+) -> Judged
+    ensures { λ r. ⌜ r ≡ judged (requestOf (startBoard (setUp (now (own .entry)) (now (secret .entry)) mode)) (frame (now (id .entry)) (now (password .entry)) function (now (bytes .entry)))) ⌝ }
+{
+    let Check::Passed = checks::check_address(own, id) else {
+        return Judged::Refused(7);
+    };
+    let scope = checks::scope_of(mode, id);
+    let Check::Passed = checks::check_password(scope, secret, password) else {
+        return Judged::Refused(8);
+    };
+    let Check::Passed = checks::check_function(function) else {
+        return Judged::Refused(9);
+    };
+    let Check::Passed = checks::check_block(function, bytes) else {
+        return Judged::Refused(10);
+    };
+    let Check::Passed = checks::check_reads(scope, function, bytes) else {
+        return Judged::Refused(11);
+    };
+    Judged::Passed(scope)
+}
+
+fn number_judged(judged: Judged) -> u8
+    ensures { λ r. ⌜ r ≡ numberJudged judged ⌝ }
+{
+    match judged {
+        Judged::Refused(number) => number,
+        Judged::Passed(_) => 0,
+    }
+}
+
+// The response to a request, or its refusal.
 fn answer(
     board: Board,
     id: &[u8],
@@ -70,35 +118,18 @@ fn answer(
     bytes: &[u8],
     response: &mut [u8],
 ) -> Stepped
+    requires { ⌜ board .size ≤ 8 ⌝ }
     ensures { λ r. ⌜ Leaves (answered (requestOf board (frame (now (id .entry)) (now (password .entry)) function (now (bytes .entry)))) (now (response .entry))) r (now (response .exit)) ⌝ }
 {
     let own = board.id;
-    let Check::Passed = checks::check_address(&own, id) else {
-        return refused(board, 7);
-    };
-    let scope = checks::scope_of(board.mode, id);
-    let Check::Passed = records::check_password(scope, board, password) else {
-        return refused(board, 8);
-    };
-    let Check::Passed = checks::check_function(function) else {
-        return refused(board, 9);
-    };
-    let Check::Passed = checks::check_block(function, bytes) else {
-        return refused(board, 10);
-    };
-    let Check::Passed = checks::check_reads(scope, function, bytes) else {
-        return refused(board, 11);
+    let stored = board.password;
+    let size = octets::wide(board.size);
+    let secret = &stored[..size];
+    let judged = judge(&own, secret, board.mode, id, password, function, bytes);
+    let Judged::Passed(scope) = judged else {
+        return refused(board, number_judged(judged));
     };
     respond(scope, board, id, password, function, bytes, response)
-}
-
-fn number_of(parsed: Parsed) -> u8
-    ensures { λ r. ⌜ r ≡ numberIn parsed ⌝ }
-{
-    match parsed {
-        Parsed::Refused(number) => number,
-        Parsed::Frame(_) => 0,
-    }
 }
 
 pub(crate) fn packet(board: Board, packet: &[u8], response: &mut [u8]) -> Stepped
@@ -112,7 +143,7 @@ pub(crate) fn packet(board: Board, packet: &[u8], response: &mut [u8]) -> Steppe
     };
     let parsed = framing::read(packet);
     let Parsed::Frame(places) = parsed else {
-        return refused(board, number_of(parsed));
+        return refused(board, framing::number_read(parsed));
     };
     let from = places.id;
     let until = from + 16;

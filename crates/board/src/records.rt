@@ -1,27 +1,30 @@
 // A board's record: made by set-up, and judged by every call that takes one.
 use super::checks;
-use super::checks::Check;
-use commands::Scope;
+use framing::Check;
 use model::Answered;
 use model::Board;
 use model::Parameters;
 use model::Verdict;
 use store::Measurement;
 use store::Store;
+ghost use Prim.Native.Nat.{_-_, _≤_};
 ghost use mathlib.Core.Bool.{not, _&&_};
+ghost use mathlib.Core.List.{_++_};
 ghost use mathlib.Core.Path.{_≡_};
+ghost use lib.ListN.{length, replicate};
 ghost use Rattle.octets.specs.Octets.{same};
 ghost use Rattle.store.specs.Layout.{valueOf};
 ghost use Rattle.store.specs.Operations.{refusalOf};
 ghost use Rattle.store.specs.Sound.{sound as rowsSound};
 ghost use Rattle.store.specs.Start.{start as startRows};
 ghost use Rattle.schedule.specs.Entries.{start as startEntries};
-ghost use Rattle.board.specs.Answering.{checked, inIdentity, laid, recordOf};
+ghost use Rattle.framing.specs.Refusal.{checked};
 ghost use Rattle.model.specs.Measurement.{MeasuresBoard, measureCall};
-ghost use Rattle.model.specs.Record.{SetsUp, micra, parametersOf, passwordOf, setUp, sound, startBoard, unset, withParameters};
+ghost use Rattle.model.specs.Record.{SetsUp, micra, parametersOf, setUp, sound, startBoard, unset, withParameters};
 
 fn in_sixteen(bytes: &[u8]) -> [u8; 16]
-    ensures { λ r. ⌜ r ≡ laid 16 (now (bytes .entry)) ⌝ }
+    requires { ⌜ length (now bytes) ≡ 16 ⌝ }
+    ensures { λ r. ⌜ r ≡ now (bytes .entry) ⌝ }
 {
     let mut array = [0u8; 16];
     octets::overwrite(&mut array, 0, bytes);
@@ -29,7 +32,8 @@ fn in_sixteen(bytes: &[u8]) -> [u8; 16]
 }
 
 fn in_eight(bytes: &[u8]) -> [u8; 8]
-    ensures { λ r. ⌜ r ≡ laid 8 (now (bytes .entry)) ⌝ }
+    requires { ⌜ length (now bytes) ≤ 8 ⌝ }
+    ensures { λ r. ⌜ r ≡ now (bytes .entry) ++ replicate (8 - length (now (bytes .entry))) 0 ⌝ }
 {
     let mut array = [0u8; 8];
     octets::overwrite(&mut array, 0, bytes);
@@ -48,19 +52,11 @@ fn start_parameters(id: [u8; 16]) -> Parameters
 
 // The start record of an ID of 16 bytes and a password of at most 8.
 fn start(id: &[u8], password: &[u8], mode: u8) -> Board
-    ensures { λ r. ⌜ r ≡ recordOf (now (id .entry)) (now (password .entry)) mode ⌝ }
+    requires { ⌜ (length (now id) ≡ 16) × (length (now password) ≤ 8) ⌝ }
+    ensures { λ r. ⌜ r ≡ startBoard (setUp (now (id .entry)) (now (password .entry)) mode) ⌝ }
 {
     let own = in_sixteen(id);
     let secret = in_eight(password);
-    if 8 < password.len() {
-        return Board {
-            id: own,
-            password: secret,
-            size: 0,
-            mode,
-            parameters: start_parameters(own),
-        };
-    }
     Board {
         id: own,
         password: secret,
@@ -141,18 +137,6 @@ pub(crate) fn check_record(board: Board) -> Check
         return Check::Failed;
     }
     check_rows(id, parameters.store)
-}
-
-// 8.
-pub(crate) fn check_password(scope: Scope, board: Board, password: &[u8]) -> Check
-    ensures { λ r. ⌜ r ≡ checked (not (inIdentity scope) && not (same (now (password .entry)) (passwordOf board))) ⌝ }
-{
-    let own = board.password;
-    let size = octets::wide(board.size);
-    if 8 < size {
-        return checks::check_password(scope, &own, password);
-    }
-    checks::check_password(scope, &own[..size], password)
 }
 
 pub(crate) fn with_parameters(board: Board, parameters: Parameters) -> Board

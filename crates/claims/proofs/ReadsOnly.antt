@@ -9,7 +9,7 @@ use lib.Dec.{leb, eqb}
 use lib.ListN.{length, take, length-append}
 use lib.Seq.{drop-at}
 use Rattle.octets.proofs.Booleans.{both-true}
-use Rattle.block.specs.Command.{Command, commandOf, isRead}
+use Rattle.block.specs.Command.{Command, commandOf, isRead, isFunction}
 use Rattle.block.specs.Encoding.{change, parameter, encodeCommand, encodeCommandsFrom, firstFunction, encodeCommands, encodableLength, encodableCommand, every}
 use Rattle.block.specs.Reading.{withValue, whole, isSome}
 use Rattle.block.specs.Request.{items, defaultLength, onlyReads}
@@ -52,7 +52,7 @@ behind-read : (page : ℕ) (c : Command) (rest : List ℕ) → encodableCommand 
     → wellFormed page (encodeCommand page 1 c ++ rest) ≡ wellFormed (c .page) rest
 unfolding encodeCommand
 behind-read page c rest encodable reads =
-    let length-fits = both-true (leb 1 (c .function) && leb (c .function) 5) (encodableLength (defaultLength (c .function)) (c .low) (length (c .value))) encodable .1 in
+    let length-fits = both-true (isFunction (c .function)) (encodableLength (defaultLength (c .function)) (c .low) (length (c .value))) encodable .1 in
     let low-byte = both-true (leb (c .low) 0xFB) (leb (length (c .value)) 255) (both-true _ (leb (defaultLength (c .function)) (length (c .value))) length-fits .0) .0 in
     ap (λ (f : ℕ). wellFormed page ((change 0xFC 1 f ++ change 0xFF page (c .page) ++ parameter (defaultLength f) (c .low) (c .value)) ++ rest)) reads
     ∙ ap (wellFormed page) (append-assoc (change 0xFF page (c .page)) (parameter 0 (c .low) (c .value)) rest)

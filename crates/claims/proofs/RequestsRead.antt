@@ -19,10 +19,11 @@ use Rattle.framing.specs.Packet.{packetRefusal, frameOf}
 use Rattle.framing.specs.Statements.{ReadsBack}
 use Rattle.framing.proofs.ReadsWritten.{reads-written}
 use Rattle.framing.proofs.Refusals.{not-refused}
-use Rattle.block.specs.Command.{Command}
+use Rattle.block.specs.Command.{Command, isFunction}
 use Rattle.block.specs.Encoding.{firstFunction, encodableCommand, every}
 use Rattle.block.specs.Reading.{isSome}
-use Rattle.block.specs.Request.{commands, onlyReads}
+use Rattle.block.specs.Request.{commands, onlyReads, namesOther}
+use Rattle.block.proofs.AllReads.{other-named}
 use Rattle.block.proofs.RoundTrips.{commands-decode}
 use Rattle.model.specs.Record.{client, accessPoint, passwordOf, sound}
 use Rattle.model.specs.Refusals.{Silent, Responds}
@@ -85,7 +86,7 @@ unfolding every
 first-within [] h = (omega arith, omega arith)
 first-within (c ∷ cs) h =
     let first = both-true (encodableCommand c) (every encodableCommand cs) h .0 in
-    let within = both-true (leb 1 (c .function)) (leb (c .function) 5) (both-true (leb 1 (c .function) && leb (c .function) 5) _ first .0) in
+    let within = both-true (leb 1 (c .function)) (leb (c .function) 5) (both-true (isFunction (c .function)) _ first .0) in
     (leb-true 1 (c .function) (within .0), leb-true (c .function) 5 (within .1))
 
 -- equal bytes are the same
@@ -117,9 +118,9 @@ discovery-answered c passes board-sound mode asked formed reads room short =
     (request-refusal-by r
     (ap (λ (t : Bool). not (same (r .frame .id) (c .board .id) || t)) default ∙ ap not (or-true (same (r .frame .id) (c .board .id))))
     (ap (λ (t : Bool). not t && not (same (r .frame .password) (passwordOf (c .board)))) discovery)
-    (ap (λ (f : ℕ). not (leb 1 f && leb f 5)) one)
+    (ap (λ (f : ℕ). not (isFunction f)) one)
     (ap not formed)
-    (λ i. discovery i && not (reads i))
+    (ap (λ (t : Bool). t && namesOther (r .frame .function) (r .frame .block)) discovery ∙ other-named (r .frame .function) (r .frame .block) .formed formed ∙ ap not reads)
     (le-ltb 256 _ short))))
 
 pub requests-agree : RequestsAgree

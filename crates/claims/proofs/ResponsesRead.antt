@@ -28,12 +28,12 @@ use Rattle.model.specs.Refusals.{Silent, Responds}
 use Rattle.model.specs.Step.{Request, Call, request, isDiscovery, reportsOf, response, wrongPassword, stepRefusals, stepRefusal, Outcome, step, Steps}
 use Rattle.model.specs.declared.Answer.the-variants.{Response}
 use Rattle.model.specs.declared.Stepped.{Stepped}
-use Rattle.model.proofs.Refused.{first-none, packets-answered}
+use Rattle.model.proofs.Refused.{first-none, none-first, packets-answered}
 use Rattle.model.proofs.Soundness.{sound-parts, id-length}
 use Rattle.model.proofs.StepRefusals.{step-refused, PassedRequest, passed-request, PassedStep, passed-step}
 use Rattle.tool.specs.Listing.{listingAs}
 use Rattle.tool.specs.Response.{readCall, readRefusal, responseAs, responseRefusals, otherId, otherPassword, noResponse}
-use Rattle.tool.proofs.Refusals.{read-by, any-by, response-by}
+use Rattle.tool.proofs.Refusals.{read-accepted, any-accepted}
 use Rattle.claims.specs.Agreement.{ResponsesAgree}
 use Rattle.model.proofs.EncodableReports.{reports-encodable}
 use Rattle.claims.proofs.RequestsRead.{same-as}
@@ -85,6 +85,7 @@ sendable r legal short right of-discovery = by-discovery (isDiscovery r) refl ri
         λ i. short i && (ap allAlphanumeric own ∙ sound-parts (r .board) legal .password) i
 
 pub responses-agree : ResponsesAgree
+unfolding responseRefusals
 responses-agree c result after size sized steps e of-discovery =
     let r : Request = request c in
     let packet : List ℕ = take size after in
@@ -101,17 +102,17 @@ responses-agree c result after size sized steps e of-discovery =
     ap (λ (f : Frame). reports (f .block)) found ∙ reports-decode (reportsOf r) (reports-encodable r legal sized) in
     let passes : packetRefusal packet ≡ none = ap packetRefusal (back .packet-sent) ∙ reading .accepted in
     let formed : firstRefusal responseRefusals (frameOf packet) ≡ none =
-    response-by (frameOf packet) (ap (λ (f : Frame). noResponse (f .function)) found) (ap (λ (o : Option (List Report)). not (isSome o)) told) in
+    none-first responseRefusals (frameOf packet) (ap (λ (f : Frame). noResponse (f .function)) found, (ap (λ (o : Option (List Report)). not (isSome o)) told, tt)) in
     let accepted : readRefusal (readCall packet (r .frame .id) (r .frame .password)) ≡ none =
-    read-by (readCall packet (r .frame .id) (r .frame .password))
+    read-accepted (readCall packet (r .frame .id) (r .frame .password))
     (ap not (sizes .0))
     (ap not (sendable r legal (sizes .1) (passed .password) of-discovery))
     passes
     (ap (λ (f : Frame). otherId (r .frame .id) (f .id)) found ∙ same-id (r .frame .id) (c .board .id) (passed .id))
     (ap (λ (f : Frame). otherPassword (r .frame .password) (f .password)) found ∙ ap not (same-self (r .frame .password)))
-    ∙ formed in
+    formed in
     record {
       accepted = ap (λ (o : Option ℕ). responseAs o (placesOf packet)) accepted;
       reports = told;
-      listed = λ i. listingAs ((any-by packet passes ∙ formed) i) (Option·getD (told i) []);
+      listed = λ i. listingAs (any-accepted packet passes formed i) (Option·getD (told i) []);
     }

@@ -4,10 +4,9 @@ use native.Mathlib.Omega.{arith}
 use mathlib.Core.Bool.{Bool, true, false, cond, _&&_, and-true, and-false, and-assoc}
 use mathlib.Core.List.{List, [], _∷_, _++_, append-nil}
 use mathlib.Core.Path.{_≡_, refl, sym, ap, _∙_}
-use borrow.Author.Tests.{leb-true, le-leb, lt-leb, leb-false}
+use borrow.Author.Tests.{leb-true, lt-leb, leb-false}
 use denote.Enum.Declared.{tagOf}
-use types.Run.{OneOf}
-use lib.Dec.{leb}
+use types.Run.{OneOf, miss}
 use lib.ListN.{length, length-append}
 use Rattle.octets.specs.Octets.{overwrite, fits}
 use Rattle.octets.proofs.Overwriting.{length-overwrite, overwrite-behind}
@@ -16,13 +15,19 @@ use Rattle.block.specs.Command.{Report, reportPage}
 use Rattle.block.specs.Encoding.{encodeReport, encodeReports, lastPage, encodableReport, every}
 use Rattle.encoding.specs.Writing.{Writes}
 use Rattle.encoding.specs.declared.Written.{Written}
-use Rattle.encoding.specs.declared.Written.the-variants.{Until}
+use Rattle.encoding.specs.declared.Written.the-variants.{Until, NoRoom, NoEncoding}
 use Rattle.encoding.proofs.Written as Written
-use Rattle.encoding.proofs.Appending.{until-told, refused-told}
 use Rattle.block.proofs.RoundTrips.{reports-join, last-page-join}
+use Rattle.commands.specs.declared.draft.Cursor.{Cursor}
 use Rattle.commands.specs.declared.draft.Draft.{Draft}
-use Rattle.commands.specs.declared.draft.Room.the-variants.{Left, Over}
-use Rattle.commands.specs.Draft.{draftOf, taken, extended, exceeded, drafted}
+use Rattle.commands.specs.declared.draft.Room.the-variants.{Left}
+use Rattle.commands.specs.Draft.{cursorBehind, cursorOver, draftOf, draftAt, taken, extended, exceeded, drafted}
+
+-- a report that is not written
+pub without-room : (cursor : Cursor) (page : ℕ) (answer : Written) → OneOf (1 ∷ 2 ∷ []) (tagOf Written.the-type answer) → cursorBehind cursor page answer ≡ cursorOver cursor
+without-room cursor page (Until length) h = absurd (miss (1 ∷ 2 ∷ []) 0 tt h)
+without-room cursor page NoRoom h = refl
+without-room cursor page NoEncoding h = refl
 
 -- one report
 module _ (draft : Draft) (r : Report) where
@@ -34,24 +39,23 @@ module _ (draft : Draft) (r : Report) where
   unfolding every
   taken-one = rw (encoded-one, and-true)
 
-  -- what the writer answered and left, where it wrote and where it did not
-  pub one-written :
-      {answer : Written} {after : List ℕ} {until : ℕ}
-      → Writes (draft .bytes) (draft .length) (encodableReport r) (encodeReport (draft .page) r) answer after → answer ≡ Until until
-      → draftOf after until (reportPage r) Left ≡ drafted draft (r ∷ [])
-  unfolding lastPage
-  one-written {after} {until} done e =
-      let known = until-told (encodableReport r) (fits (draft .bytes) (draft .length) (encodeReport (draft .page) r)) (done .answered) e in
-      let laid : after ≡ overwrite (draft .bytes) (draft .length) (encodeReport (draft .page) r) = done .stored ∙ rw (known .0, known .1) in
-      (λ i. draftOf (laid i) (known .2 i) (reportPage r) Left)
-      ∙ rw (taken-one, known .0, known .1, encoded-one)
+module _ (bytes : List ℕ) (cursor : Cursor) where
+  -- what the writer left, by whether the report has a form and fits
+  written-by :
+      (encodable fit : Bool) (laid : List ℕ) (end page : ℕ) {after : List ℕ} {next : Cursor} → next ≡ cursorBehind cursor page (cond encodable (cond fit (Until end) NoRoom) NoEncoding)
+      → after ≡ cond (encodable && fit) laid bytes → draftAt after next ≡ cond (encodable && fit) (draftOf laid end page Left) (exceeded (draftAt bytes cursor))
+  written-by true true laid end page moved stored = λ i. draftAt (stored i) (moved i)
+  written-by true false laid end page moved stored = λ i. draftAt (stored i) (moved i)
+  written-by false fit laid end page moved stored = λ i. draftAt (stored i) (moved i)
 
-  pub one-over :
-      {answer : Written} {after : List ℕ}
-      → Writes (draft .bytes) (draft .length) (encodableReport r) (encodeReport (draft .page) r) answer after → OneOf (1 ∷ 2 ∷ []) (tagOf Written.the-type answer)
-      → exceeded draft ≡ drafted draft (r ∷ [])
-  one-over done h =
-      rw (taken-one ∙ refused-told (encodableReport r) (fits (draft .bytes) (draft .length) (encodeReport (draft .page) r)) _ (done .answered) h)
+  pub one-written :
+      (r : Report) {answer : Written} {after : List ℕ} {next : Cursor}
+      → Writes bytes (cursor .length) (encodableReport r) (encodeReport (cursor .page) r) answer after → next ≡ cursorBehind cursor (reportPage r) answer
+      → draftAt after next ≡ drafted (draftAt bytes cursor) (r ∷ [])
+  unfolding lastPage
+  one-written r done moved =
+      written-by (encodableReport r) (fits bytes (cursor .length) (encodeReport (cursor .page) r)) _ _ _ (moved ∙ ap (cursorBehind cursor (reportPage r)) (done .answered)) (done .stored)
+      ∙ rw (taken-one (draftAt bytes cursor) r, encoded-one (draftAt bytes cursor) r)
 
 -- reports behind reports
 every-join : (rs qs : List Report) → every encodableReport (rs ++ qs) ≡ (every encodableReport rs && every encodableReport qs)

@@ -8,7 +8,6 @@ use mathlib.Core.Option.{Option, none, some, Option·map}
 use mathlib.Core.Path.{_≡_, refl, sym, ap, _∙_}
 use borrow.Author.Tests.{le-leb, leb-true}
 use lib.ListN.{length, take, drop, take-append-drop}
-use Rattle.octets.specs.Octets.{overwrite, fits}
 use Rattle.octets.proofs.Booleans.{both-true}
 use Rattle.octets.proofs.Overwriting.{length-overwrite}
 use Rattle.block.specs.Command.{Command, Report}
@@ -18,13 +17,13 @@ use Rattle.model.specs.declared.Parameters.{Parameters}
 use Rattle.commands.specs.declared.Ran.{Ran}
 use Rattle.commands.specs.declared.Scope.{Scope}
 use Rattle.commands.specs.declared.draft.Draft.{Draft}
-use Rattle.commands.specs.declared.draft.Room.{Room}
 use Rattle.commands.specs.declared.draft.Room.the-variants.{Left, Over}
-use Rattle.commands.specs.Draft.{draftOf, taken, extended, exceeded, drafted, reportedIn, runReportsIn, ranOf, ranCommand, ranBehind}
+use Rattle.commands.specs.Draft.{draftOf, taken, extended, exceeded, drafted, reportedIn, runReportsIn, ranOf, ranBehind}
 use Rattle.commands.proofs.Drafts.{taken-join, extended-join, over-join}
 
 -- a draft that reports can be put behind
 pub record Settled (draft : Draft) : Type 0 where
+  pub whole : length (draft .bytes) ≡ 232
   pub left : draft .room ≡ Left
   pub inside : draft .length ≤ length (draft .bytes)
 
@@ -63,52 +62,49 @@ over-by draft reports true e h = cc
 over-by draft reports false e h = refl
 
 -- a command is run behind a draft, and others are left
-module _ (stopped : Ran) (scope : Scope) (p : Parameters) (draft : Draft) (settled : Settled draft) (c : Command) {after : Ran} (one : after ≡ ranCommand scope p draft c) where
-  said : List Report
-  said = reportedIn scope (afterCommand p c) c
+module _
+    (scope : Scope) (p : Parameters) (draft : Draft) (settled : Settled draft) (c : Command) {held : Parameters} {after : Draft} (changed : held ≡ afterCommand p c)
+    (reported : after ≡ drafted draft (reportedIn scope held c))
+  where
+    said : List Report
+    said = reportedIn scope (afterCommand p c) c
 
-  after-draft : after .draft ≡ cond (taken draft said) (extended draft said) (exceeded draft)
-  unfolding said
-  after-draft = ap (λ (ran : Ran). ran .draft) one ∙ drafted-as draft settled said
+    after-draft : after ≡ cond (taken draft said) (extended draft said) (exceeded draft)
+    unfolding said
+    after-draft = reported ∙ ap (λ (now : Parameters). drafted draft (reportedIn scope now c)) changed ∙ drafted-as draft settled said
 
-  all-taken : after .draft .room ≡ Left → taken draft said ≡ true
-  all-taken h = taken-by draft said (taken draft said) after-draft h
+    all-taken : after .room ≡ Left → taken draft said ≡ true
+    all-taken h = taken-by draft said (taken draft said) after-draft h
 
-  kept : after .draft .room ≡ Left → after ≡ ranOf (afterCommand p c) (extended draft said)
-  unfolding said
-  kept h = λ i. ranOf (one i .parameters) ((after-draft ∙ ap (λ (yes : Bool). cond yes (extended draft said) (exceeded draft)) (all-taken h)) i)
+    kept : after .room ≡ Left → after ≡ extended draft said
+    kept h = after-draft ∙ ap (λ (yes : Bool). cond yes (extended draft said) (exceeded draft)) (all-taken h)
 
-  pub settled-again : after .draft .room ≡ Left → Settled (after .draft)
-  unfolding said
-  settled-again h =
-      let room : draft .length + length (encodeReports (draft .page) said) ≤ length (draft .bytes) =
-      leb-true _ _ (both-true (every encodableReport said) _ (all-taken h) .1) in
-      record {
-        left = h;
-        inside = rw (kept h) (omega (arith, length-overwrite (draft .bytes) (draft .length) (encodeReports (draft .page) said) room));
-      }
+    pub settled-again : after .room ≡ Left → Settled after
+    settled-again h =
+        let room : draft .length + length (encodeReports (draft .page) said) ≤ length (draft .bytes) =
+        leb-true _ _ (both-true (every encodableReport said) _ (all-taken h) .1) in
+        let whole = length-overwrite (draft .bytes) (draft .length) (encodeReports (draft .page) said) room in
+        record { whole = rw (kept h) (whole ∙ settled .whole); left = h; inside = rw (kept h) (omega (arith, whole)) }
 
-  -- the rest from here gives what the whole gives
-  turned : (rest : Option (List Command)) → taken draft said ≡ true
-      → ranBehind stopped scope p draft (Option·map (λ (cs : List Command). c ∷ cs) rest) ≡ ranBehind stopped scope (afterCommand p c) (extended draft said) rest
-  unfolding said runReportsIn run
-  turned none h = refl
-  turned (some cs) h =
-      rw (
-        taken-join draft said (runReportsIn scope (afterCommand p c) cs) h,
-        extended-join draft said (runReportsIn scope (afterCommand p c) cs) h,
-      )
+    -- the rest from here gives what the whole gives
+    turned : (stopped : Ran) (rest : Option (List Command)) → taken draft said ≡ true
+        → ranBehind stopped scope p draft (Option·map (λ (cs : List Command). c ∷ cs) rest) ≡ ranBehind stopped scope (afterCommand p c) (extended draft said) rest
+    unfolding said runReportsIn run
+    turned stopped none h = refl
+    turned stopped (some cs) h =
+        rw (
+          taken-join draft said (runReportsIn scope (afterCommand p c) cs) h,
+          extended-join draft said (runReportsIn scope (afterCommand p c) cs) h,
+        )
 
-  pub turn-left : (rest : Option (List Command)) → after .draft .room ≡ Left
-      → ranBehind stopped scope p draft (Option·map (λ (cs : List Command). c ∷ cs) rest) ≡ ranBehind stopped scope (after .parameters) (after .draft) rest
-  turn-left rest h =
-      turned rest (all-taken h)
-      ∙ ap (λ (ran : Ran). ranBehind stopped scope (ran .parameters) (ran .draft) rest) (sym (kept h))
+    pub turn-left : (stopped : Ran) (rest : Option (List Command)) → after .room ≡ Left
+        → ranBehind stopped scope p draft (Option·map (λ (cs : List Command). c ∷ cs) rest) ≡ ranBehind stopped scope held after rest
+    turn-left stopped rest h = turned stopped rest (all-taken h) ∙ sym (λ i. ranBehind stopped scope (changed i) (kept h i) rest)
 
-  -- reports without room stop it
-  pub turn-over : (rest : Option (List Command)) → after .draft .room ≡ Over
-      → ranBehind stopped scope p draft (Option·map (λ (cs : List Command). c ∷ cs) rest) ≡ stopped
-  unfolding said runReportsIn run
-  turn-over none h = refl
-  turn-over (some cs) h =
-      rw (over-join draft said (runReportsIn scope (afterCommand p c) cs) (over-by draft said (taken draft said) after-draft h))
+    -- reports without room stop it
+    pub turn-over : (stopped : Ran) (rest : Option (List Command)) → after .room ≡ Over
+        → ranBehind stopped scope p draft (Option·map (λ (cs : List Command). c ∷ cs) rest) ≡ stopped
+    unfolding said runReportsIn run
+    turn-over stopped none h = refl
+    turn-over stopped (some cs) h =
+        rw (over-join draft said (runReportsIn scope (afterCommand p c) cs) (over-by draft said (taken draft said) after-draft h))

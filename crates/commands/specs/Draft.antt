@@ -11,6 +11,9 @@ use Rattle.block.specs.Request.{commands}
 use Rattle.store.specs.Rows.{isIdentity}
 use Rattle.model.specs.Commands.{afterCommand, reported, run}
 use Rattle.model.specs.declared.Parameters.{Parameters}
+use Rattle.encoding.specs.declared.Written.{Written}
+use Rattle.encoding.specs.declared.Written.the-variants.{Until, NoRoom, NoEncoding}
+use Rattle.commands.specs.declared.draft.Cursor.{Cursor}
 use Rattle.commands.specs.declared.draft.Draft.{Draft}
 use Rattle.commands.specs.declared.draft.Room.{Room}
 use Rattle.commands.specs.declared.draft.Room.the-variants.{Left, Over}
@@ -20,6 +23,21 @@ use Rattle.commands.specs.declared.Scope.the-variants.{All, Identity}
 
 abbrev pub draftOf : List ℕ → ℕ → ℕ → Room → Draft
 draftOf bytes length page room = record { bytes = bytes; length = length; page = page; room = room }
+
+abbrev pub cursorOf : ℕ → ℕ → Room → Cursor
+cursorOf length page room = record { length = length; page = page; room = room }
+
+abbrev pub draftAt : List ℕ → Cursor → Draft
+draftAt bytes cursor = draftOf bytes (cursor .length) (cursor .page) (cursor .room)
+
+abbrev pub cursorOver : Cursor → Cursor
+cursorOver cursor = cursorOf (cursor .length) (cursor .page) Over
+
+-- the cursor behind a report, by what the report's writer answered
+abbrev pub cursorBehind : Cursor → ℕ → Written → Cursor
+cursorBehind cursor page (Until length) = cursorOf length page Left
+cursorBehind cursor page NoRoom = cursorOver cursor
+cursorBehind cursor page NoEncoding = cursorOver cursor
 
 -- whether reports have a form each, and fit behind what is written
 abbrev pub taken : Draft → List Report → Bool
@@ -60,10 +78,6 @@ runReportsIn scope parameters (c ∷ cs) =
 
 abbrev pub ranOf : Parameters → Draft → Ran
 ranOf parameters draft = record { parameters = parameters; draft = draft }
-
--- one command
-abbrev pub ranCommand : Scope → Parameters → Draft → Command → Ran
-ranCommand scope parameters draft c = ranOf (afterCommand parameters c) (drafted draft (reportedIn scope (afterCommand parameters c) c))
 
 -- commands behind what is written; where there are none to run, or their reports are not taken, `stopped`
 abbrev pub ranBehind : Ran → Scope → Parameters → Draft → Option (List Command) → Ran

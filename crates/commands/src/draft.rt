@@ -3,7 +3,7 @@ use encoding::Written;
 ghost use mathlib.Core.List.{[], _∷_};
 ghost use mathlib.Core.Path.{_≡_};
 ghost use Rattle.block.specs.Command.{held, unknown};
-ghost use Rattle.commands.specs.Draft.{blank as blankDraft, drafted, exceeded};
+ghost use Rattle.commands.specs.Draft.{cursorBehind, draftAt, drafted};
 
 // Whether all reports had room.
 pub enum Room {
@@ -19,63 +19,49 @@ pub struct Draft {
     pub room: Room,
 }
 
-// Nothing written yet.
-pub(crate) fn blank() -> Draft
-    ensures { λ r. ⌜ r ≡ blankDraft ⌝ }
-{
-    Draft {
-        bytes: [0u8; 232],
-        length: 0,
-        page: 0,
-        room: Room::Left,
-    }
+// How far a draft is written, apart from its bytes.
+pub(crate) struct Cursor {
+    pub length: usize,
+    pub page: u8,
+    pub room: Room,
 }
 
-// The report of a value behind what is written.
-pub(crate) fn with_value(draft: Draft, page: u8, low: u8, value: &[u8]) -> Draft
-    ensures { λ r. ⌜ r ≡ drafted draft (held page low (now (value .entry)) ∷ []) ⌝ }
+// Behind a report on `page`, or where the draft ends, without room for it.
+fn behind(cursor: Cursor, page: u8, written: Written) -> Cursor
+    ensures { λ r. ⌜ r ≡ cursorBehind cursor page written ⌝ }
 {
-    let at = draft.length;
-    let in_force = draft.page;
-    let mut bytes = draft.bytes;
-    let Written::Until(length) = encoding::write_report(&mut bytes, at, in_force, page, low, value)
-    else {
-        return over(draft);
+    let Written::Until(length) = written else {
+        return Cursor {
+            length: cursor.length,
+            page: cursor.page,
+            room: Room::Over,
+        };
     };
-    Draft {
-        bytes,
+    Cursor {
         length,
         page,
         room: Room::Left,
     }
 }
 
-// The report of an unknown parameter behind what is written.
-pub(crate) fn with_unknown(draft: Draft, page: u8, low: u8) -> Draft
-    ensures { λ r. ⌜ r ≡ drafted draft (unknown page low ∷ []) ⌝ }
+// Writes the report of a value.
+pub(crate) fn write_value(
+    bytes: &mut [u8],
+    cursor: Cursor,
+    page: u8,
+    low: u8,
+    value: &[u8],
+) -> Cursor
+    ensures { λ r. ⌜ draftAt (now (bytes .exit)) r ≡ drafted (draftAt (now (bytes .entry)) cursor) (held page low (now (value .entry)) ∷ []) ⌝ }
 {
-    let at = draft.length;
-    let in_force = draft.page;
-    let mut bytes = draft.bytes;
-    let Written::Until(length) = encoding::write_unknown(&mut bytes, at, in_force, page, low) else {
-        return over(draft);
-    };
-    Draft {
-        bytes,
-        length,
-        page,
-        room: Room::Left,
-    }
+    let written = encoding::write_report(bytes, cursor.length, cursor.page, page, low, value);
+    behind(cursor, page, written)
 }
 
-fn over(draft: Draft) -> Draft
-    ensures { λ r. ⌜ r ≡ exceeded draft ⌝ }
+// Writes the report of an unknown parameter.
+pub(crate) fn write_unknown(bytes: &mut [u8], cursor: Cursor, page: u8, low: u8) -> Cursor
+    ensures { λ r. ⌜ draftAt (now (bytes .exit)) r ≡ drafted (draftAt (now (bytes .entry)) cursor) (unknown page low ∷ []) ⌝ }
 {
-    let bytes = draft.bytes;
-    Draft {
-        bytes,
-        length: draft.length,
-        page: draft.page,
-        room: Room::Over,
-    }
+    let written = encoding::write_unknown(bytes, cursor.length, cursor.page, page, low);
+    behind(cursor, page, written)
 }

@@ -2,6 +2,7 @@
 pub mod draft;
 
 use block::request::NextCommand;
+use draft::Cursor;
 use draft::Draft;
 use draft::Room;
 use model::Parameters;
@@ -12,7 +13,7 @@ ghost use Rattle.block.specs.Command.{commandOf, parameterNumber};
 ghost use Rattle.store.specs.Operations.{answer};
 ghost use Rattle.schedule.specs.Operations.{answered};
 ghost use Rattle.model.specs.Commands.{afterRow, afterEntry, afterCommand, rowReport, entryReport};
-ghost use Rattle.commands.specs.Draft.{blank, drafted, exceeded, ranBlock, ranCommand, ranOf, reportedIn, selected};
+ghost use Rattle.commands.specs.Draft.{blank, draftAt, drafted, exceeded, ranBlock, ranOf, reportedIn, selected};
 
 // Which parameters are reported: in a discovery only the ID and the unit type.
 pub enum Scope {
@@ -87,15 +88,23 @@ fn is_selected(scope: Scope, number: u16) -> bool
 }
 
 // What a command of a row reports, behind what is written.
-fn report_row(store: Store, draft: Draft, function: u8, page: u8, low: u8, value: &[u8]) -> Draft
-    ensures { λ r. ⌜ r ≡ drafted draft (rowReport (answer function (parameterNumber page low) (now (value .entry))) store (commandOf function page low (now (value .entry)))) ⌝ }
+fn report_row(
+    store: Store,
+    bytes: &mut [u8],
+    cursor: Cursor,
+    function: u8,
+    page: u8,
+    low: u8,
+    value: &[u8],
+) -> Cursor
+    ensures { λ r. ⌜ draftAt (now (bytes .exit)) r ≡ drafted (draftAt (now (bytes .entry)) cursor) (rowReport (answer function (parameterNumber page low) (now (value .entry))) store (commandOf function page low (now (value .entry)))) ⌝ }
 {
     let number = number_of(page, low);
     match store::answered_with(function, number, value) {
-        store::Answer::Silence => draft,
-        store::Answer::Unknown => draft::with_unknown(draft, page, low),
+        store::Answer::Silence => cursor,
+        store::Answer::Unknown => draft::write_unknown(bytes, cursor, page, low),
         store::Answer::Value => {
-            draft::with_value(draft, page, low, store::held(&store.bytes, number))
+            draft::write_value(bytes, cursor, page, low, store::held(&store.bytes, number))
         }
     }
 }
@@ -103,20 +112,21 @@ fn report_row(store: Store, draft: Draft, function: u8, page: u8, low: u8, value
 // What a command of the schedule reports, behind what is written.
 fn report_entry(
     schedule: Schedule,
-    draft: Draft,
+    bytes: &mut [u8],
+    cursor: Cursor,
     function: u8,
     page: u8,
     low: u8,
     value: &[u8],
-) -> Draft
-    ensures { λ r. ⌜ r ≡ drafted draft (entryReport (answered function (now (value .entry))) schedule (commandOf function page low (now (value .entry)))) ⌝ }
+) -> Cursor
+    ensures { λ r. ⌜ draftAt (now (bytes .exit)) r ≡ drafted (draftAt (now (bytes .entry)) cursor) (entryReport (answered function (now (value .entry))) schedule (commandOf function page low (now (value .entry)))) ⌝ }
 {
     match schedule::answered_with(function, value) {
-        schedule::Answer::Silence => draft,
-        schedule::Answer::Unknown => draft::with_unknown(draft, page, low),
+        schedule::Answer::Silence => cursor,
+        schedule::Answer::Unknown => draft::write_unknown(bytes, cursor, page, low),
         schedule::Answer::Entry { day, period } => {
             let entry = schedule::report(schedule, day, period);
-            draft::with_value(draft, page, low, &entry)
+            draft::write_value(bytes, cursor, page, low, &entry)
         }
     }
 }
@@ -125,30 +135,31 @@ fn report_entry(
 fn report(
     scope: Scope,
     parameters: Parameters,
-    draft: Draft,
+    bytes: &mut [u8],
+    cursor: Cursor,
     function: u8,
     page: u8,
     low: u8,
     value: &[u8],
-) -> Draft
-    ensures { λ r. ⌜ r ≡ drafted draft (reportedIn scope parameters (commandOf function page low (now (value .entry)))) ⌝ }
+) -> Cursor
+    ensures { λ r. ⌜ draftAt (now (bytes .exit)) r ≡ drafted (draftAt (now (bytes .entry)) cursor) (reportedIn scope parameters (commandOf function page low (now (value .entry)))) ⌝ }
 {
     let number = number_of(page, low);
     if !is_selected(scope, number) {
-        return draft;
+        return cursor;
     }
     if number == SCHEDULE {
-        return report_entry(parameters.schedule, draft, function, page, low, value);
+        return report_entry(
+            parameters.schedule,
+            bytes,
+            cursor,
+            function,
+            page,
+            low,
+            value,
+        );
     }
-    report_row(parameters.store, draft, function, page, low, value)
-}
-
-fn run_one(scope: Scope, ran: Ran, function: u8, page: u8, low: u8, value: &[u8]) -> Ran
-    ensures { λ r. ⌜ r ≡ ranCommand scope (ran .parameters) (ran .draft) (commandOf function page low (now (value .entry))) ⌝ }
-{
-    let parameters = change(ran.parameters, function, page, low, value);
-    let draft = report(scope, parameters, ran.draft, function, page, low, value);
-    Ran { parameters, draft }
+    report_row(parameters.store, bytes, cursor, function, page, low, value)
 }
 
 // Parameters whose commands are not run.
@@ -164,6 +175,20 @@ fn stopped(parameters: Parameters) -> Ran
     Ran { parameters, draft }
 }
 
+// Parameters whose commands are run, with what they report.
+fn finished(parameters: Parameters, bytes: [u8; 232], cursor: Cursor) -> Ran
+    ensures { λ r. ⌜ r ≡ ranOf parameters (draftAt bytes cursor) ⌝ }
+{
+    let room = cursor.room;
+    let draft = Draft {
+        bytes,
+        length: cursor.length,
+        page: cursor.page,
+        room,
+    };
+    Ran { parameters, draft }
+}
+
 // The commands of a block in order. Where their reports have no room, or the block is malformed, nothing has happened.
 pub fn run(scope: Scope, parameters: Parameters, function: u8, bytes: &[u8]) -> Ran
     ensures { λ r. ⌜ r ≡ ranBlock scope parameters function (now (bytes .entry)) ⌝ }
@@ -171,29 +196,28 @@ pub fn run(scope: Scope, parameters: Parameters, function: u8, bytes: &[u8]) -> 
     let mut rest = bytes;
     let mut page: u8 = 0;
     let mut in_force = function;
-    let draft = draft::blank();
-    let mut ran = Ran { parameters, draft };
+    let mut held = parameters;
+    let mut draft = [0u8; 232];
+    let mut cursor = Cursor {
+        length: 0,
+        page: 0,
+        room: Room::Left,
+    };
     loop {
         match block::request::next_command(rest, page, in_force) {
-            NextCommand::End => return ran,
+            NextCommand::End => return finished(held, draft, cursor),
             NextCommand::Malformed => return stopped(parameters),
             NextCommand::Command {
                 function: called,
                 page: turned,
                 low,
-                value,
+                value: from,
                 rest: behind,
             } => {
-                ran = run_one(
-                    scope,
-                    ran,
-                    called,
-                    turned,
-                    low,
-                    block::part(rest, value, behind),
-                );
-                let written = ran.draft;
-                let room = written.room;
+                let value = block::part(rest, from, behind);
+                held = change(held, called, turned, low, value);
+                cursor = report(scope, held, &mut draft, cursor, called, turned, low, value);
+                let room = cursor.room;
                 let Room::Left = room else {
                     return stopped(parameters);
                 };

@@ -20,8 +20,8 @@ use Rattle.framing.specs.Refusal.{Refusal, firstRefusal}
 use Rattle.framing.proofs.Refusals.{not-refused}
 use Rattle.framing.proofs.Writing.{length-packet}
 use Rattle.block.specs.Command.{Report}
-use Rattle.block.specs.Request.{onlyReads}
 use Rattle.model.specs.Authentication.{passes}
+use Rattle.model.specs.Conditions.{otherThanReads}
 use Rattle.model.specs.Measurement.{measureRefusals, measureRefusal, measuredBy, measuredBoard}
 use Rattle.model.specs.Record.{verdictOf, client, accessPoint, passwordOf, setUpRefusals, setUpRefusal, boardOf, setUpBoard, sound}
 use Rattle.model.specs.Refusals.{Earliest, first, later, NoneApplies, Silent, Responds, PacketsAnswered, Authorized, AuthorizedAnswered, MeasurementsAnswered, SetUpsAnswered}
@@ -196,7 +196,7 @@ authorized-passes c a =
     (ap (λ (same-password : Bool). not (isDiscovery r) && not same-password) (bearing .1) ∙ and-false (not (isDiscovery r)))
     (λ i. not (le-leb 1 (r .frame .function) (a .function .0) i && le-leb (r .frame .function) 5 (a .function .1) i))
     (ap not (a .block))
-    (ap (λ (d : Bool). d && not (onlyReads (r .frame .function) (r .frame .block))) (for-board .1))
+    (ap (λ (d : Bool). d && otherThanReads (r .frame)) (for-board .1))
     (le-ltb _ _ (a .short)))
 
 pub authorized-answered : AuthorizedAnswered

@@ -2,17 +2,18 @@
 use Prim.Native.Nat.{ℕ}
 use native.Mathlib.Omega.{arith}
 use mathlib.Core.Bool.{Bool, true, false, cond, not}
-use mathlib.Core.List.{List, [], _∷_, _++_, map}
+use mathlib.Core.List.{List, [], _∷_, map}
 use mathlib.Core.Option.{Option, none, some, orElse}
 use mathlib.Core.Path.{_≡_, refl, sym, ap, _∙_}
+use lib.ListN.{drop}
 use Rattle.framing.specs.Packet.{packetRefusals, packetRefusal}
-use Rattle.framing.specs.Refusal.{Refusal, refusal, firstRefusal}
-use Rattle.framing.proofs.Refusals.{not-refused}
+use Rattle.framing.specs.Refusal.{refusalOf, firstRefusal}
+use Rattle.framing.proofs.Refusals.{not-refused, first-of-part, part-then, both-none}
 use Rattle.block.specs.Command.{Report}
 use Rattle.block.specs.Reading.{isSome}
 use Rattle.model.specs.Commands.{run}
 use Rattle.model.specs.Record.{withParameters}
-use Rattle.model.specs.Step.{Request, Call, request, unsound, smallBuffer, otherId, wrongPassword, wrongFunction, malformed, discoveryWrites, longResponse, requestRefusals, onPacket, onRequest, stepRefusals, stepRefusal, isDiscovery, commandsOf, reportsOf, Outcome, outcomeOf, nextBoard, answerWith, outcomeBy, step}
+use Rattle.model.specs.Step.{Request, Call, request, unsound, smallBuffer, otherId, wrongPassword, wrongFunction, malformed, discoveryWrites, longResponse, requestRefusals, stepRefusals, stepRefusal, isDiscovery, commandsOf, reportsOf, Outcome, outcomeOf, nextBoard, answerWith, outcomeBy, step}
 use Rattle.model.specs.declared.Answer.the-variants.{Refused}
 use Rattle.model.specs.declared.Board.{Board}
 
@@ -21,40 +22,12 @@ pub no-refusal : (refusal : Option ℕ) → not (isSome refusal) ≡ true → re
 no-refusal none h = refl
 no-refusal (some number) h = let impossible : _≡_ {A = ℕ} 0 1 = cc in absurd (omega arith)
 
-either :
-    (applies : Bool) (number : ℕ) (rest behind : Option ℕ)
-    → cond applies (some number) (orElse rest behind) ≡ orElse (cond applies (some number) rest) behind
-unfolding orElse
-either true number rest behind = refl
-either false number rest behind = refl
-
--- refusals behind others come after them
-join :
-    {Asked : Type 0} (rows behind : List (Refusal Asked)) (asked : Asked)
-    → firstRefusal (rows ++ behind) asked ≡ orElse (firstRefusal rows asked) (firstRefusal behind asked)
-unfolding firstRefusal orElse
-join [] behind asked = refl
-join (row ∷ rows) behind asked =
-    ap (cond (row .applies asked) (some (row .number))) (join rows behind asked)
-    ∙ either (row .applies asked) (row .number) (firstRefusal rows asked) (firstRefusal behind asked)
-
--- refusals of a part of a call, as refusals of the call
-over-part :
-    {Part : Type 0} (part : Call → Part) (rows : List (Refusal Part)) (c : Call)
-    → firstRefusal (map (λ (row : Refusal Part). refusal (row .number) (λ (whole : Call). row .applies (part whole))) rows) c ≡ firstRefusal rows (part c)
-unfolding firstRefusal
-over-part part [] c = refl
-over-part part (row ∷ rows) c = ap (cond (row .applies (part c)) (some (row .number))) (over-part part rows c)
-
 -- those of the packet's bytes, then those of its frame
-behind-one :
-    (c : Call)
-    → firstRefusal (map onPacket packetRefusals ++ map onRequest requestRefusals) c
-    ≡ orElse (packetRefusal (c .packet)) (firstRefusal requestRefusals (request c))
-unfolding packetRefusal
+behind-one : (c : Call) → firstRefusal (drop 2 stepRefusals) c ≡ orElse (packetRefusal (c .packet)) (firstRefusal requestRefusals (request c))
+unfolding stepRefusals packetRefusal
 behind-one c =
-    join (map onPacket packetRefusals) (map onRequest requestRefusals) c
-    ∙ (λ i. orElse (over-part (λ (whole : Call). whole .packet) packetRefusals c i) (over-part request requestRefusals c i))
+    part-then c (λ (whole : Call). whole .packet) packetRefusals (map (refusalOf request) requestRefusals)
+    ∙ ap (orElse (firstRefusal packetRefusals (c .packet))) (first-of-part c request requestRefusals)
 
 pub step-refusal :
     (c : Call)
@@ -116,11 +89,6 @@ pub record PassedStep (c : Call) : Type 0 where
   pub room : smallBuffer c ≡ false
   pub packet : packetRefusal (c .packet) ≡ none
   pub request : firstRefusal requestRefusals (request c) ≡ none
-
-both-none : (left right : Option ℕ) → orElse left right ≡ none → (left ≡ none) × (right ≡ none)
-unfolding orElse
-both-none none right e = (refl, e)
-both-none (some number) right e = (e, cc)
 
 pub passed-step : (c : Call) → stepRefusal c ≡ none → PassedStep c
 unfolding stepRefusal stepRefusals

@@ -16,8 +16,8 @@ use Rattle.framing.specs.Refusal.{firstRefusal}
 use Rattle.block.specs.Command.{Report}
 use Rattle.block.specs.Encoding.{encodeReports}
 use Rattle.block.specs.Reading.{isSome}
-use Rattle.block.specs.Request.{onlyReads}
 use Rattle.model.specs.Authentication.{passes, bears, discovers}
+use Rattle.model.specs.Conditions.{discoversIn, otherThanReads}
 use Rattle.model.specs.Commands.{run, runReports, discoverReports}
 use Rattle.model.specs.Discovery.{Reply, replyOf, Discovery, foundReports, foundResponse, discovery, discoveryRefusals, replyWith, replyBy, discoveryReply}
 use Rattle.model.specs.PublicReply.{bufferedReply, publicRefusal, publicReply, UnauthenticatedAnswered}
@@ -50,7 +50,7 @@ module _ (board : Board) (packet : List ℕ) where
   found : Discovery
   found = discovery packet (board .id)
 
-  module _ (is-discovery : (eqb (board .mode) client && same (frameOf packet .id) defaultId) ≡ true) where
+  module _ (is-discovery : discoversIn (board .mode) (frameOf packet) ≡ true) where
     reports-found : reportsOf asked ≡ foundReports found
     unfolding asked found
     reports-found = ap (λ (d : Bool). cond d (discoverReports (board .id) (commandsOf asked)) (runReports (board .parameters) (commandsOf asked))) is-discovery
@@ -78,7 +78,7 @@ module _ (board : Board) (packet : List ℕ) where
         (no-and _ is-discovery)
         refl
         refl
-        (ap (λ (d : Bool). d && not (onlyReads (frameOf packet .function) (frameOf packet .block))) is-discovery)
+        (ap (λ (d : Bool). d && otherThanReads (frameOf packet)) is-discovery)
         (ap (λ (f : Frame). ltb 256 (packetLength f)) response-found)
 
     outcome-found : (refusal : Option ℕ) (buffer : List ℕ) → outcomeBy refusal asked buffer ≡ withReply board (replyBy refusal found buffer)
@@ -99,12 +99,12 @@ module _ (board : Board) (packet : List ℕ) where
     pub discovery-step : discovers (board .mode) packet ≡ true → step (call board packet buffer) ≡ withReply board (bufferedReply packet (board .id) buffer)
     unfolding asked found step discoveryReply orElse
     discovery-step h =
-        let parts = both-true (passes packet) (eqb (board .mode) client && same (frameOf packet .id) defaultId) h in
+        let parts = both-true (passes packet) (discoversIn (board .mode) (frameOf packet)) h in
         ap (λ (refusal : Option ℕ). outcomeBy refusal asked buffer) (refusal-by refl (no-refusal (packetRefusal packet) (parts .0)) (refusal-found (parts .1)))
         ∙ by-room (parts .1) (ltb (length buffer) 256)
       where
         by-room :
-            (eqb (board .mode) client && same (frameOf packet .id) defaultId) ≡ true → (small : Bool)
+            discoversIn (board .mode) (frameOf packet) ≡ true → (small : Bool)
             → outcomeBy (cond small (some 1) (firstRefusal discoveryRefusals found)) asked buffer
             ≡ withReply board (cond small (replyOf (Refused 1) buffer) (replyBy (firstRefusal discoveryRefusals found) found buffer))
         by-room is-discovery true = refl
@@ -126,7 +126,7 @@ module _ (board : Board) (packet : List ℕ) where
         by-packet (some number) e = refusal-by refl e refl
         by-packet none e =
             let no-discovery : isDiscovery asked ≡ false =
-            ap (λ (o : Option ℕ). not (isSome o) && (eqb (board .mode) client && same (frameOf packet .id) defaultId)) (sym e) ∙ h in
+            ap (λ (o : Option ℕ). not (isSome o) && discoversIn (board .mode) (frameOf packet)) (sym e) ∙ h in
             let other : same (frameOf packet .password) (passwordOf board) ≡ false =
             ap (λ (o : Option ℕ). not (isSome o) && same (frameOf packet .password) (passwordOf board)) (sym e) ∙ unknown in
             refusal-by refl e (request-refusal-by asked refl (λ i. not (no-discovery i) && not (other i)) refl refl refl refl)

@@ -2,12 +2,10 @@
 use Prim.Native.Nat.{ℕ}
 use mathlib.Core.Bool.{Bool, not, _&&_}
 use mathlib.Core.List.{List}
-use lib.Dec.{eqb}
 use Rattle.octets.specs.Octets.{same}
-use Rattle.framing.specs.Identity.{defaultId}
 use Rattle.framing.specs.Packet.{packetRefusal, frameOf}
 use Rattle.block.specs.Reading.{isSome}
-use Rattle.model.specs.Record.{client}
+use Rattle.model.specs.Conditions.{discoversIn}
 
 -- the packet passes 2 to 6
 abbrev pub passes : List ℕ → Bool
@@ -17,6 +15,6 @@ passes packet = not (isSome (packetRefusal packet))
 abbrev pub bears : List ℕ → List ℕ → Bool
 bears packet password = passes packet && same (frameOf packet .password) password
 
--- a discovery (the search of document 01) where this mode is in force
+-- a packet that is a discovery where this mode is in force
 abbrev pub discovers : ℕ → List ℕ → Bool
-discovers mode packet = passes packet && (eqb mode client && same (frameOf packet .id) defaultId)
+discovers mode packet = passes packet && discoversIn mode (frameOf packet)

@@ -1,19 +1,17 @@
 -- The answer to a discovery (the search of document 01): from the packet, the board's ID and the response buffer alone. The unit type
 -- is the same on every board.
 use Prim.Native.Nat.{ℕ}
-use mathlib.Core.Bool.{not, _&&_}
 use mathlib.Core.List.{List, [], _∷_}
 use mathlib.Core.Option.{Option, none, some, Option·getD}
-use lib.Dec.{leb, ltb}
+use lib.Dec.{ltb}
 use lib.ListN.{length}
 use Rattle.octets.specs.Octets.{overwrite}
 use Rattle.framing.specs.Frame.{Frame, frame, packetOf, packetLength}
 use Rattle.framing.specs.Packet.{frameOf}
 use Rattle.framing.specs.Refusal.{Refusal, refusal, firstRefusal}
-use Rattle.block.specs.Command.{Command, Report}
+use Rattle.block.specs.Command.{Report}
 use Rattle.block.specs.Encoding.{encodeReports}
-use Rattle.block.specs.Reading.{isSome}
-use Rattle.block.specs.Request.{commands, onlyReads}
+use Rattle.model.specs.Conditions.{commandsIn, noFunction, noCommands, otherThanReads}
 use Rattle.model.specs.Commands.{discoverReports}
 use Rattle.model.specs.declared.Answer.{Answer}
 use Rattle.model.specs.declared.Answer.the-variants.{Refused, Silence, Response}
@@ -34,12 +32,9 @@ pub record Discovery : Type 0 where
 abbrev pub discovery : List ℕ → List ℕ → Discovery
 discovery packet id = record { asked = frameOf packet; id = id }
 
-abbrev pub askedCommands : Discovery → Option (List Command)
-askedCommands d = commands (d .asked .function) (d .asked .block)
-
 -- each 007C reports the ID and each 00B9 the unit type, in the order of the commands
 abbrev pub foundReports : Discovery → List Report
-foundReports d = discoverReports (d .id) (Option·getD (askedCommands d) [])
+foundReports d = discoverReports (d .id) (Option·getD (commandsIn (d .asked)) [])
 
 -- with the password block of the packet
 abbrev pub foundResponse : Discovery → Frame
@@ -47,9 +42,9 @@ foundResponse d = frame (d .id) (d .asked .password) 0x06 (encodeReports 0 (foun
 
 unfoldable pub discoveryRefusals : List (Refusal Discovery)
 discoveryRefusals =
-    refusal 9 (λ (d : Discovery). not (leb 1 (d .asked .function) && leb (d .asked .function) 5))
-    ∷ refusal 10 (λ (d : Discovery). not (isSome (askedCommands d)))
-    ∷ refusal 11 (λ (d : Discovery). not (onlyReads (d .asked .function) (d .asked .block)))
+    refusal 9 (λ (d : Discovery). noFunction (d .asked))
+    ∷ refusal 10 (λ (d : Discovery). noCommands (d .asked))
+    ∷ refusal 11 (λ (d : Discovery). otherThanReads (d .asked))
     ∷ refusal 12 (λ (d : Discovery). ltb 256 (packetLength (foundResponse d)))
     ∷ []
 

@@ -1,4 +1,5 @@
 pub mod Record
+pub mod Conditions
 pub mod Commands
 pub mod Step
 pub mod Measurement

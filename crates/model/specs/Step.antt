@@ -4,19 +4,18 @@ use mathlib.Core.Bool.{Bool, cond, not, _&&_, _||_}
 use mathlib.Core.List.{List, [], _∷_, _++_, map}
 use mathlib.Core.Option.{Option, none, some, Option·getD}
 use mathlib.Core.Path.{_≡_}
-use lib.Dec.{leb, ltb, eqb}
+use lib.Dec.{ltb}
 use lib.ListN.{length}
 use Rattle.octets.specs.Octets.{same, overwrite}
 use Rattle.framing.specs.Frame.{Frame, frame, packetOf, packetLength}
 use Rattle.framing.specs.Identity.{defaultId}
 use Rattle.framing.specs.Packet.{packetRefusals, frameOf}
-use Rattle.framing.specs.Refusal.{Refusal, refusal, firstRefusal}
+use Rattle.framing.specs.Refusal.{Refusal, refusal, refusalOf, firstRefusal}
 use Rattle.block.specs.Command.{Command, Report}
 use Rattle.block.specs.Encoding.{encodeReports}
-use Rattle.block.specs.Reading.{isSome}
-use Rattle.block.specs.Request.{commands, onlyReads}
+use Rattle.model.specs.Conditions.{discoversIn, commandsIn, noFunction, noCommands, otherThanReads}
 use Rattle.model.specs.Commands.{run, runReports, discoverReports}
-use Rattle.model.specs.Record.{sound, client, passwordOf, withParameters}
+use Rattle.model.specs.Record.{sound, passwordOf, withParameters}
 use Rattle.model.specs.declared.Answer.{Answer}
 use Rattle.model.specs.declared.Answer.the-variants.{Refused, Silence, Response}
 use Rattle.model.specs.declared.Board.{Board}
@@ -42,12 +41,11 @@ requestOf board asked = record { board = board; frame = asked }
 abbrev pub request : Call → Request
 request c = requestOf (c .board) (frameOf (c .packet))
 
--- whether the mode in force and the ID make a request a discovery (the search of document 01)
 abbrev pub isDiscovery : Request → Bool
-isDiscovery r = eqb (r .board .mode) client && same (r .frame .id) defaultId
+isDiscovery r = discoversIn (r .board .mode) (r .frame)
 
 abbrev pub decoded : Request → Option (List Command)
-decoded r = commands (r .frame .function) (r .frame .block)
+decoded r = commandsIn (r .frame)
 
 abbrev pub commandsOf : Request → List Command
 commandsOf r = Option·getD (decoded r) []
@@ -74,13 +72,13 @@ abbrev pub wrongPassword : Request → Bool
 wrongPassword r = not (isDiscovery r) && not (same (r .frame .password) (passwordOf (r .board)))
 
 abbrev pub wrongFunction : Request → Bool
-wrongFunction r = not (leb 1 (r .frame .function) && leb (r .frame .function) 5)
+wrongFunction r = noFunction (r .frame)
 
 abbrev pub malformed : Request → Bool
-malformed r = not (isSome (decoded r))
+malformed r = noCommands (r .frame)
 
 abbrev pub discoveryWrites : Request → Bool
-discoveryWrites r = isDiscovery r && not (onlyReads (r .frame .function) (r .frame .block))
+discoveryWrites r = isDiscovery r && otherThanReads (r .frame)
 
 abbrev pub longResponse : Request → Bool
 longResponse r = ltb 256 (packetLength (response r))
@@ -95,14 +93,9 @@ requestRefusals =
     ∷ refusal 12 longResponse
     ∷ []
 
-abbrev pub onPacket : Refusal (List ℕ) → Refusal Call
-onPacket row = refusal (row .number) (λ (c : Call). row .applies (c .packet))
-
-abbrev pub onRequest : Refusal Request → Refusal Call
-onRequest row = refusal (row .number) (λ (c : Call). row .applies (request c))
-
 unfoldable pub stepRefusals : List (Refusal Call)
-stepRefusals = refusal 70 unsound ∷ refusal 1 smallBuffer ∷ map onPacket packetRefusals ++ map onRequest requestRefusals
+stepRefusals =
+    refusal 70 unsound ∷ refusal 1 smallBuffer ∷ map (refusalOf (λ (c : Call). c .packet)) packetRefusals ++ map (refusalOf request) requestRefusals
 
 unfoldable pub stepRefusal : Call → Option ℕ
 stepRefusal c = firstRefusal stepRefusals c

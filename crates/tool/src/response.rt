@@ -1,12 +1,11 @@
 // Reads a response packet.
-use super::Check;
+use framing::Check;
 use framing::Parsed;
 use framing::Places;
 ghost use mathlib.Core.Path.{_≡_};
-ghost use Rattle.tool.specs.Checks.{checked};
-ghost use Rattle.framing.specs.Refusal.{firstRefusal};
+ghost use Rattle.framing.specs.Refusal.{firstRefusal, checked};
 ghost use Rattle.framing.specs.Packet.{placesOf, frameOf};
-ghost use Rattle.tool.specs.Response.{readCall, responseOf, responseAs, responseRefusals, anyResponseOf, otherId, otherPassword, noResponse, malformedBlock, numberOf, Stands};
+ghost use Rattle.tool.specs.Response.{readCall, responseOf, responseAs, responseRefusals, anyResponseOf, otherId, otherPassword, noResponse, malformedBlock, Stands};
 
 pub enum Response {
     // The data block stands from `block` to `end`; its reports are what `reports::next_report` hands out, from page 0 on.
@@ -21,35 +20,25 @@ fn check_same_id(asked: &[u8], found: &[u8]) -> Check
     if framing::is_default_id(asked) {
         return Check::Passed;
     }
-    super::passed_if(octets::equal(found, asked))
+    framing::passed_if(octets::equal(found, asked))
 }
 
 fn check_same_password(sent: &[u8], found: &[u8]) -> Check
     ensures { λ r. ⌜ r ≡ checked (otherPassword (now (sent .entry)) (now (found .entry))) ⌝ }
 {
-    super::passed_if(octets::equal(found, sent))
+    framing::passed_if(octets::equal(found, sent))
 }
 
 fn check_function(function: u8) -> Check
     ensures { λ r. ⌜ r ≡ checked (noResponse function) ⌝ }
 {
-    super::passed_if(function == 6)
+    framing::passed_if(function == 6)
 }
 
 fn check_block(block: &[u8]) -> Check
     ensures { λ r. ⌜ r ≡ checked (malformedBlock (now (block .entry))) ⌝ }
 {
-    super::passed_if(reports::well_formed(block))
-}
-
-// The number of a refused packet.
-pub(crate) fn number_of(parsed: Parsed) -> u8
-    ensures { λ r. ⌜ r ≡ numberOf parsed ⌝ }
-{
-    match parsed {
-        Parsed::Frame(_) => 0,
-        Parsed::Refused(number) => number,
-    }
+    framing::passed_if(reports::well_formed(block))
 }
 
 // What 9 and 10 say of a packet that passed 2 to 6.
@@ -81,7 +70,7 @@ pub fn read(packet: &[u8], id: &[u8], password: &[u8]) -> Response
     };
     let parsed = framing::read(packet);
     let Parsed::Frame(places) = parsed else {
-        return Response::Refused(number_of(parsed));
+        return Response::Refused(framing::number_read(parsed));
     };
     let start = places.id;
     let end = start + 16;
@@ -102,7 +91,7 @@ pub(crate) fn read_any(packet: &[u8]) -> Response
 {
     let parsed = framing::read(packet);
     let Parsed::Frame(places) = parsed else {
-        return Response::Refused(number_of(parsed));
+        return Response::Refused(framing::number_read(parsed));
     };
     read_block(packet, places)
 }

@@ -1,5 +1,5 @@
 -- `commands::change` meets its contract.
-use mathlib.Core.Path.{_≡_, ap, _∙_}
+use mathlib.Core.Path.{ap, _∙_}
 use denote.Ref.{now}
 use Rattle.block.specs.Command.{commandOf}
 use Rattle.store.specs.declared.Store.{Store}

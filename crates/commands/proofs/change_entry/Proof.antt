@@ -1,6 +1,6 @@
 -- `commands::change_entry` meets its contract.
 use native.Mathlib.Omega.{arith}
-use mathlib.Core.Path.{_≡_, _∙_}
+use mathlib.Core.Path.{_∙_}
 use denote.Ref.{now}
 use Rattle.block.specs.Command.{commandOf}
 use Rattle.commands.proofs.Running.{entry-written, entry-kept}

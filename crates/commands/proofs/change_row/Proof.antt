@@ -1,6 +1,6 @@
 -- `commands::change_row` meets its contract.
 use native.Mathlib.Omega.{arith}
-use mathlib.Core.Path.{_≡_, sym, _∙_}
+use mathlib.Core.Path.{_∙_}
 use denote.Ref.{now}
 use Rattle.block.specs.Command.{commandOf}
 use Rattle.commands.proofs.Running.{after-write, after-raise, after-lower, after-none}

@@ -1,5 +1,5 @@
 -- `commands::is_selected` meets its contract.
-use mathlib.Core.Path.{_≡_, sym, ap, _∙_}
+use mathlib.Core.Path.{sym, ap, _∙_}
 use Rattle.commands.specs.declared.Scope.{Scope}
 use Rattle.commands.specs.Draft.{selected}
 use Rattle.commands.proofs.Running.{in-identity, not-in-identity}

@@ -1,8 +1,9 @@
 -- `commands::report` meets its contract.
-use mathlib.Core.Path.{_≡_, _∙_}
+use mathlib.Core.Path.{_∙_}
 use borrow.Author.Tests.{not-true, not-false}
 use denote.Ref.{now}
 use Rattle.block.specs.Command.{commandOf}
+use Rattle.commands.specs.Draft.{draftAt}
 use Rattle.commands.proofs.Running.{passed-over, report-of-entry, report-of-row}
 use borrow.Author.Needs.{needs}
 use Rattle.commands.proofs.report.Statement.{statement}
@@ -16,32 +17,38 @@ is-selected-requires c κs = search needs
 
 returns : tie.Need-returns
 returns c =
-    let args = c .before .before .before .before .args in
+    let args = c .before .before .before .before .before .args in
     let command = commandOf (args .function) (args .page) (args .low) (now (args .value)) in
-    passed-over (args .scope) (args .parameters) (args .draft) command (c .before .before .number-of .ensures) (c .before .is-selected .ensures)
+    passed-over (args .scope) (args .parameters) (draftAt (now (args .bytes)) (args .cursor)) command (c .before .before .number-of .ensures) (c .before .is-selected .ensures)
     (not-true _ (c .if1 .taken))
 
 report-entry-requires : tie.Need-report-entry-requires
 report-entry-requires c κs = search needs
 
+same-length : tie.Need-same-length
+same-length c = search needs
+
 returns-2 : tie.Need-returns-2
 returns-2 c =
-    let args = c .before .before .before .before .before .before .args in
+    let args = c .before .before .before .before .before .before .before .before .before .before .args in
     let command = commandOf (args .function) (args .page) (args .low) (now (args .value)) in
-    c .report-entry .ensures
-    ∙ report-of-entry (args .scope) (args .parameters) (args .draft) command (c .before .before .before .before .number-of .ensures)
-    (c .before .before .before .is-selected .ensures) (not-false _ (c .before .before .if1 .left)) (c .before .if2 .taken)
+    c .before .before .report-entry .ensures
+    ∙ report-of-entry (args .scope) (args .parameters) (draftAt (now (args .bytes)) (args .cursor)) command (c .before .before .before .before .before .before .before .number-of .ensures)
+    (c .before .before .before .before .before .before .is-selected .ensures) (not-false _ (c .before .before .before .before .before .if1 .left)) (c .before .before .before .before .if2 .taken)
 
 report-row-requires : tie.Need-report-row-requires
 report-row-requires c κs = search needs
 
+same-length-2 : tie.Need-same-length-2
+same-length-2 c = search needs
+
 returns-3 : tie.Need-returns-3
 returns-3 c =
-    let args = c .before .before .before .before .before .before .args in
+    let args = c .before .before .before .before .before .before .before .before .before .before .args in
     let command = commandOf (args .function) (args .page) (args .low) (now (args .value)) in
-    c .report-row .ensures
-    ∙ report-of-row (args .scope) (args .parameters) (args .draft) command (c .before .before .before .before .number-of .ensures)
-    (c .before .before .before .is-selected .ensures) (not-false _ (c .before .before .if1 .left)) (c .before .if2 .left)
+    c .before .before .report-row .ensures
+    ∙ report-of-row (args .scope) (args .parameters) (draftAt (now (args .bytes)) (args .cursor)) command (c .before .before .before .before .before .before .before .number-of .ensures)
+    (c .before .before .before .before .before .before .is-selected .ensures) (not-false _ (c .before .before .before .before .before .if1 .left)) (c .before .before .before .before .if2 .left)
 
 pub report-spec : {M : Type 1} → statement M
 report-spec =
@@ -51,6 +58,8 @@ report-spec =
     is-selected-requires
     returns
     report-entry-requires
+    same-length
     returns-2
     report-row-requires
+    same-length-2
     returns-3)

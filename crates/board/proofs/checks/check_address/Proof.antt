@@ -1,7 +1,7 @@
 -- `board::checks::check_address` meets its contract.
-use mathlib.Core.Bool.{not, _&&_, _||_}
-use mathlib.Core.Path.{_≡_, sym, _∙_}
-use Rattle.board.specs.Answering.{checked, scopeOf, inIdentity}
+use mathlib.Core.Bool.{not, _||_}
+use mathlib.Core.Path.{sym, _∙_}
+use Rattle.framing.specs.Refusal.{checked}
 use Rattle.octets.specs.Octets.{same}
 use Rattle.framing.specs.Identity.{defaultId}
 use denote.Ref.{now}

@@ -1,5 +1,5 @@
 -- `board::checks::check_buffer` meets its contract.
-use borrow.Author.Tests.{eq-eqb, ne-eqb, le-leb, lt-leb, lt-ltb, le-ltb, not-true, not-false}
+use borrow.Author.Tests.{lt-ltb, le-ltb}
 use Rattle.board.proofs.checks.check_buffer.Statement.{statement}
 use Rattle.board.proofs.checks.check_buffer.Tie as tie
 

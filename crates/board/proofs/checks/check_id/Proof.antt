@@ -1,8 +1,8 @@
 -- `board::checks::check_id` meets its contract.
-use mathlib.Core.Bool.{not, _&&_, _||_}
-use mathlib.Core.Path.{_≡_, sym, _∙_}
-use borrow.Author.Tests.{eq-eqb, ne-eqb, le-leb, lt-leb}
-use Rattle.board.specs.Answering.{checked, scopeOf, inIdentity}
+use mathlib.Core.Bool.{not, _&&_}
+use mathlib.Core.Path.{sym, _∙_}
+use borrow.Author.Tests.{eq-eqb, ne-eqb}
+use Rattle.framing.specs.Refusal.{checked}
 use Rattle.octets.specs.Octets.{same}
 use Rattle.framing.specs.Identity.{defaultId}
 use denote.Ref.{now}

@@ -1,8 +1,8 @@
 -- `board::checks::check_mode` meets its contract.
-use mathlib.Core.Bool.{not, _&&_, _||_}
-use mathlib.Core.Path.{_≡_, sym, _∙_}
-use borrow.Author.Tests.{eq-eqb, ne-eqb, le-leb, lt-leb}
-use Rattle.board.specs.Answering.{checked, scopeOf, inIdentity}
+use mathlib.Core.Bool.{not, _||_}
+use mathlib.Core.Path.{sym}
+use borrow.Author.Tests.{ne-eqb}
+use Rattle.framing.specs.Refusal.{checked}
 use Rattle.board.proofs.checks.check_mode.Statement.{statement}
 use Rattle.board.proofs.checks.check_mode.Tie as tie
 

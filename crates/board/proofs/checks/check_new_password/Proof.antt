@@ -1,7 +1,4 @@
 -- `board::checks::check_new_password` meets its contract.
-use mathlib.Core.Bool.{not, _&&_, _||_}
-use mathlib.Core.Path.{_≡_, sym, _∙_}
-use Rattle.board.specs.Answering.{checked, scopeOf, inIdentity}
 use borrow.Author.Needs.{needs}
 use Rattle.board.proofs.checks.check_new_password.Statement.{statement}
 use Rattle.board.proofs.checks.check_new_password.Tie as tie
@@ -9,11 +6,11 @@ use Rattle.board.proofs.checks.check_new_password.Tie as tie
 is-password-requires : tie.Need-is-password-requires
 is-password-requires c κs = search needs
 
-returns : tie.Need-returns
-returns c = λ i. checked (not ((sym (c .if1 .taken) ∙ c .before .is-password .ensures) i))
+passed-if-requires : tie.Need-passed-if-requires
+passed-if-requires c κs = search needs
 
-returns-2 : tie.Need-returns-2
-returns-2 c = λ i. checked (not ((sym (c .if1 .left) ∙ c .before .is-password .ensures) i))
+returns : tie.Need-returns
+returns c = rw (c .passed-if .ensures, c .before .is-password .ensures)
 
 pub check-new-password-spec : {M : Type 1} → statement M
-check-new-password-spec = tie.close (tie.spec is-password-requires returns returns-2)
+check-new-password-spec = tie.close (tie.spec is-password-requires passed-if-requires returns)

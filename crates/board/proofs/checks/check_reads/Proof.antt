@@ -1,7 +1,4 @@
 -- `board::checks::check_reads` meets its contract.
-use mathlib.Core.Bool.{not, _&&_, _||_}
-use mathlib.Core.Path.{_≡_, sym, _∙_}
-use Rattle.board.specs.Answering.{checked, scopeOf, inIdentity}
 use borrow.Author.Needs.{needs}
 use Rattle.board.proofs.checks.check_reads.Statement.{statement}
 use Rattle.board.proofs.checks.check_reads.Tie as tie
@@ -18,12 +15,12 @@ returns c = search needs
 only-reads-requires : tie.Need-only-reads-requires
 only-reads-requires c κs = search needs
 
-returns-2 : tie.Need-returns-2
-returns-2 c = λ i. checked (inIdentity (sym (c .before .before .enum-told .given .1) i) && not ((sym (c .if1 .taken) ∙ c .before .only-reads .ensures) i))
+passed-if-requires : tie.Need-passed-if-requires
+passed-if-requires c κs = search needs
 
-returns-3 : tie.Need-returns-3
-returns-3 c = λ i. checked (inIdentity (sym (c .before .before .enum-told .given .1) i) && not ((sym (c .if1 .left) ∙ c .before .only-reads .ensures) i))
+returns-2 : tie.Need-returns-2
+returns-2 c = rw (c .passed-if .ensures, c .before .only-reads .ensures, c .before .before .enum-told .given .1)
 
 pub check-reads-spec : {M : Type 1} → statement M
 check-reads-spec =
-    tie.close (tie.spec enum-told enum-told-2 returns only-reads-requires returns-2 returns-3)
+    tie.close (tie.spec enum-told enum-told-2 returns only-reads-requires passed-if-requires returns-2)

@@ -1,31 +1,36 @@
 -- `board::packets::packet` meets its contract.
+use Prim.Native.Nat.{ℕ, _+_, _-_}
 use native.Mathlib.Omega.{arith}
-use mathlib.Core.Option.{Option, none, some, orElse}
+use mathlib.Core.Bool.{false}
+use mathlib.Core.List.{List}
+use mathlib.Core.Option.{Option, none, orElse}
 use mathlib.Core.Path.{_≡_, refl, sym, ap, _∙_}
 use borrow.Author.Needs.{needs}
-use borrow.Author.Tests.{ltb-false, not-false}
+use borrow.Author.Tests.{leb-true, ltb-false, not-false}
 use denote.Ref.{now}
-use lib.ListN.{length}
-use Prim.Native.Nat.{ℕ, _+_, _-_, _≤_}
-use mathlib.Core.Bool.{Bool, true, false}
-use mathlib.Core.List.{List}
 use lib.ListN.{take, drop, getD}
-use Rattle.framing.specs.Frame.{Frame, frame}
-use Rattle.framing.specs.Packet.{frameAt, frameOf, packetRefusal, placesOf}
+use Rattle.framing.specs.Frame.{frame}
+use Rattle.framing.specs.Packet.{frameAt, packetRefusal, placesOf}
 use Rattle.framing.specs.declared.Places.{Places}
 use Rattle.schedule.proofs.Lengths.{unmapped}
 use Rattle.model.specs.Changes.{Sized}
-use Rattle.framing.specs.Refusal.{firstRefusal}
-use Rattle.board.specs.Answering.{answered}
-use Rattle.model.specs.Step.{Request, call, outcomeBy, request, requestOf, step}
+use Rattle.model.specs.Step.{Call, Request, call, outcomeBy, request, requestOf, smallBuffer, step, unsound}
+use Rattle.model.specs.declared.Board.{Board}
 use Rattle.model.specs.declared.Answer.the-variants.{Refused}
-use Rattle.board.proofs.Checking.{passed, failed}
-use Rattle.board.proofs.Responding.{leaves, leaves-as, steps, refused-number, accepted-places, password-short, within}
-use Rattle.board.proofs.Responses.{answered-outcome}
+use Rattle.model.proofs.Soundness.{sound-parts}
 use Rattle.model.proofs.StepRefusals.{step-refusal-by, step-refused}
-use borrow.Author.Needs.{needs}
+use Rattle.board.specs.Answering.{answered}
+use Rattle.framing.proofs.Refusals.{passed, failed}
+use Rattle.framing.proofs.Answers.{Within, refused-number, accepted-places, within}
+use Rattle.board.proofs.Responding.{leaves, steps, password-short}
+use Rattle.board.proofs.Responses.{answered-outcome}
 use Rattle.board.proofs.packets.packet.Statement.{statement}
 use Rattle.board.proofs.packets.packet.Tie as tie
+
+abbrev asked : tie.After-check-record → Call
+asked c =
+    let args = c .before .before .before .args in
+    call (args .board) (now (args .packet)) (now (args .response))
 
 check-record-requires : tie.Need-check-record-requires
 check-record-requires c κs = search needs
@@ -42,9 +47,11 @@ refused-requires c κs = search needs
 returns : tie.Need-returns
 unfolding orElse
 returns c =
-    let args = c .before .before .before .before .before .before .args in
-    let asked = call (args .board) (now (args .packet)) (now (args .response)) in
-    steps (step-refused asked (step-refusal-by asked (failed _ (c .before .before .before .check-record .ensures) (c .before .enum-told2 .given .1)) refl refl refl)) (leaves refl (c .refused .ensures .0) (c .refused .ensures .1) refl)
+    steps (step-refused (asked (c .before .before .before)) (step-refusal-by (asked (c .before .before .before)) (failed _ (c .before .before .before .check-record .ensures) (c .before .enum-told2 .given .1)) refl refl refl))
+    (leaves refl (c .refused .ensures .0) (c .refused .ensures .1) refl)
+
+record-right : (c : tie.After-enum-told) → unsound (asked (c .before .before)) ≡ false
+record-right c = passed _ (c .before .before .check-record .ensures) (c .enum-told .given .1)
 
 check-buffer-requires : tie.Need-check-buffer-requires
 check-buffer-requires c κs = search needs
@@ -61,10 +68,12 @@ refused-requires-2 c κs = search needs
 returns-2 : tie.Need-returns-2
 unfolding orElse
 returns-2 c =
-    let args = c .before .before .before .before .before .before .before .before .before .args in
-    let asked = call (args .board) (now (args .packet)) (now (args .response)) in
-    let record-right = passed _ (c .before .before .before .before .before .before .check-record .ensures) (c .before .before .before .before .enum-told .given .1) in
-    steps (step-refused asked (step-refusal-by asked record-right (failed _ (c .before .before .before .check-buffer .ensures) (c .before .enum-told4 .given .1)) refl refl)) (leaves refl (c .refused2 .ensures .0) (c .refused2 .ensures .1) refl)
+    let call = asked (c .before .before .before .before .before .before) in
+    steps (step-refused call (step-refusal-by call (record-right (c .before .before .before .before)) (failed _ (c .before .before .before .check-buffer .ensures) (c .before .enum-told4 .given .1)) refl refl))
+    (leaves refl (c .refused2 .ensures .0) (c .refused2 .ensures .1) refl)
+
+buffer-right : (c : tie.After-enum-told3) → smallBuffer (asked (c .before .before .before .before .before)) ≡ false
+buffer-right c = passed _ (c .before .before .check-buffer .ensures) (c .enum-told3 .given .1)
 
 read-requires : tie.Need-read-requires
 read-requires c κs = search needs
@@ -75,8 +84,8 @@ enum-known-parsed c = search needs
 enum-told-5 : tie.Need-enum-told-5
 enum-told-5 c = search needs
 
-number-of-requires : tie.Need-number-of-requires
-number-of-requires c κs = search needs
+number-read-requires : tie.Need-number-read-requires
+number-read-requires c κs = search needs
 
 refused-requires-3 : tie.Need-refused-requires-3
 refused-requires-3 c κs = search needs
@@ -84,24 +93,26 @@ refused-requires-3 c κs = search needs
 returns-3 : tie.Need-returns-3
 unfolding orElse
 returns-3 c =
-    let args = c .before .before .before .before .before .before .before .before .before .before .before .before .before .args in
-    let asked = call (args .board) (now (args .packet)) (now (args .response)) in
-    let record-right = passed _ (c .before .before .before .before .before .before .before .before .before .before .check-record .ensures) (c .before .before .before .before .before .before .before .before .enum-told .given .1) in
-    let buffer-right = passed _ (c .before .before .before .before .before .before .before .check-buffer .ensures) (c .before .before .before .before .before .enum-told3 .given .1) in
-    let number = refused-number (packetRefusal (now (args .packet))) (placesOf (now (args .packet))) (c .before .before .before .before .read .ensures) (c .before .before .enum-told5 .given .1) in
-    steps (step-refused asked (step-refusal-by asked record-right buffer-right number refl)) (leaves refl (c .refused3 .ensures .0) (c .refused3 .ensures .1 ∙ ap Refused (c .before .number-of .ensures)) refl)
+    let call = asked (c .before .before .before .before .before .before .before .before .before .before) in
+    let number = refused-number (packetRefusal (call .packet)) (placesOf (call .packet)) (c .before .before .before .before .read .ensures) (c .before .before .enum-told5 .given .1) in
+    steps (step-refused call (step-refusal-by call (record-right (c .before .before .before .before .before .before .before .before)) (buffer-right (c .before .before .before .before .before)) number refl))
+    (leaves refl (c .refused3 .ensures .0) (c .refused3 .ensures .1 ∙ ap Refused (c .before .number-read .ensures)) refl)
+
+-- where the parts of a packet that is read stand
+abbrev found : tie.After-parsed → Places
+found c = c .parsed .given .0 .0
+
+read-right : (c : tie.After-parsed) → (packetRefusal (asked (c .before .before .before .before .before .before .before .before) .packet) ≡ none) × (found c ≡ placesOf (asked (c .before .before .before .before .before .before .before .before) .packet))
+read-right c = accepted-places (packetRefusal (asked (c .before .before .before .before .before .before .before .before) .packet)) (c .before .before .read .ensures) (c .parsed .given .1)
+
+inside : (c : tie.After-parsed) → Within (asked (c .before .before .before .before .before .before .before .before) .packet) (found c)
+inside c = within (asked (c .before .before .before .before .before .before .before .before) .packet) (read-right c .0) (read-right c .1)
 
 add-until : tie.Need-add-until
-add-until c =
-    let read = accepted-places (packetRefusal (now (c .before .before .before .before .before .before .before .before .before .before .before .before .args .packet))) (c .before .before .before .read .ensures) (c .before .parsed .given .1) in
-    let inside = within (now (c .before .before .before .before .before .before .before .before .before .before .before .before .args .packet)) (read .0) (read .1) in
-    omega (arith, inside .id)
+add-until c = omega (arith, inside (c .before) .id)
 
 shared-slice-read-function : tie.Need-shared-slice-read-function
-shared-slice-read-function c =
-    let read = accepted-places (packetRefusal (now (c .before .before .before .before .before .before .before .before .before .before .before .before .before .args .packet))) (c .before .before .before .before .read .ensures) (c .before .before .parsed .given .1) in
-    let inside = within (now (c .before .before .before .before .before .before .before .before .before .before .before .before .before .args .packet)) (read .0) (read .1) in
-    inside .function
+shared-slice-read-function c = inside (c .before .before) .function
 
 sub-answer : tie.Need-sub-answer
 sub-answer c = search needs
@@ -110,75 +121,55 @@ part-answer-start : tie.Need-part-answer-start
 part-answer-start c = search needs
 
 part-answer-end : tie.Need-part-answer-end
-part-answer-end c =
-    let read = accepted-places (packetRefusal (now (c .before .before .before .before .before .before .before .before .before .before .before .before .before .args .packet))) (c .before .before .before .before .read .ensures) (c .before .before .parsed .given .1) in
-    let inside = within (now (c .before .before .before .before .before .before .before .before .before .before .before .before .before .args .packet)) (read .0) (read .1) in
-    omega (arith, inside .id)
+part-answer-end c = omega (arith, inside (c .before .before) .id)
 
 sub-answer-2 : tie.Need-sub-answer-2
-sub-answer-2 c =
-    let read = accepted-places (packetRefusal (now (c .before .before .before .before .before .before .before .before .before .before .before .before .before .before .args .packet))) (c .before .before .before .before .before .read .ensures) (c .before .before .before .parsed .given .1) in
-    let inside = within (now (c .before .before .before .before .before .before .before .before .before .before .before .before .before .before .args .packet)) (read .0) (read .1) in
-    inside .password
+sub-answer-2 c = inside (c .before .before .before) .password
 
 part-answer-start-2 : tie.Need-part-answer-start-2
-part-answer-start-2 c =
-    let read = accepted-places (packetRefusal (now (c .before .before .before .before .before .before .before .before .before .before .before .before .before .before .args .packet))) (c .before .before .before .before .before .read .ensures) (c .before .before .before .parsed .given .1) in
-    let inside = within (now (c .before .before .before .before .before .before .before .before .before .before .before .before .before .before .args .packet)) (read .0) (read .1) in
-    omega (arith, inside .password, inside .function)
+part-answer-start-2 c = omega (arith, inside (c .before .before .before) .password, inside (c .before .before .before) .function)
 
 part-answer-end-2 : tie.Need-part-answer-end-2
-part-answer-end-2 c =
-    let read = accepted-places (packetRefusal (now (c .before .before .before .before .before .before .before .before .before .before .before .before .before .before .args .packet))) (c .before .before .before .before .before .read .ensures) (c .before .before .before .parsed .given .1) in
-    let inside = within (now (c .before .before .before .before .before .before .before .before .before .before .before .before .before .before .args .packet)) (read .0) (read .1) in
-    omega (arith, inside .password, inside .function)
+part-answer-end-2 c = omega (arith, inside (c .before .before .before) .password, inside (c .before .before .before) .function)
 
 sub-answer-3 : tie.Need-sub-answer-3
-sub-answer-3 c =
-    let read = accepted-places (packetRefusal (now (c .before .before .before .before .before .before .before .before .before .before .before .before .before .before .before .args .packet))) (c .before .before .before .before .before .before .read .ensures) (c .before .before .before .before .parsed .given .1) in
-    let inside = within (now (c .before .before .before .before .before .before .before .before .before .before .before .before .before .before .before .args .packet)) (read .0) (read .1) in
-    inside .block
+sub-answer-3 c = inside (c .before .before .before .before) .block
 
 part-answer-start-3 : tie.Need-part-answer-start-3
-part-answer-start-3 c =
-    let read = accepted-places (packetRefusal (now (c .before .before .before .before .before .before .before .before .before .before .before .before .before .before .before .args .packet))) (c .before .before .before .before .before .before .read .ensures) (c .before .before .before .before .parsed .given .1) in
-    let inside = within (now (c .before .before .before .before .before .before .before .before .before .before .before .before .before .before .before .args .packet)) (read .0) (read .1) in
-    omega (arith, inside .block, inside .end)
+part-answer-start-3 c = omega (arith, inside (c .before .before .before .before) .block, inside (c .before .before .before .before) .end)
 
 part-answer-end-3 : tie.Need-part-answer-end-3
-part-answer-end-3 c =
-    let read = accepted-places (packetRefusal (now (c .before .before .before .before .before .before .before .before .before .before .before .before .before .before .before .args .packet))) (c .before .before .before .before .before .before .read .ensures) (c .before .before .before .before .parsed .given .1) in
-    let inside = within (now (c .before .before .before .before .before .before .before .before .before .before .before .before .before .before .before .args .packet)) (read .0) (read .1) in
-    omega (arith, inside .block, inside .end)
+part-answer-end-3 c = omega (arith, inside (c .before .before .before .before) .block, inside (c .before .before .before .before) .end)
 
 answer-requires : tie.Need-answer-requires
-answer-requires c κs = search needs
+answer-requires c κs = leb-true _ _ (sound-parts _ (not-false _ (record-right (c .before .before .before .before .before .before .before .before .before .before .before .before))) .size)
 
 same-length : tie.Need-same-length
 same-length c = search needs
 
+-- the request as the code cuts it out of the packet
+same-request :
+    (board : Board) (packet : List ℕ) {places given : Places} → places ≡ given
+    → requestOf board (frame (take (places .id + 16 - places .id) (drop (places .id) packet)) (take (places .function - places .password) (drop (places .password) packet)) (getD packet (places .function) 0) (take (places .end - places .block) (drop (places .block) packet)))
+    ≡ requestOf board (frameAt packet given)
+same-request board packet {places} e =
+    let sixteen : places .id + 16 - places .id ≡ 16 = omega arith in
+    rw sixteen (ap (λ (at : Places). requestOf board (frameAt packet at)) e)
+
 returns-4 : tie.Need-returns-4
 unfolding orElse step
 returns-4 c =
-    let args = c .before .before .before .before .before .before .before .before .before .before .before .before .before .before .before .before .before .before .before .before .args in
-    let packet = now (args .packet) in
-    let buffer = now (args .response) in
-    let asked = call (args .board) packet buffer in
-    let record-right = passed _ (c .before .before .before .before .before .before .before .before .before .before .before .before .before .before .before .before .before .check-record .ensures) (c .before .before .before .before .before .before .before .before .before .before .before .before .before .before .before .enum-told .given .1) in
-    let buffer-right = passed _ (c .before .before .before .before .before .before .before .before .before .before .before .before .before .before .check-buffer .ensures) (c .before .before .before .before .before .before .before .before .before .before .before .before .enum-told3 .given .1) in
-    let places = c .before .before .before .before .before .before .before .before .before .parsed .given .0 .0 in
-    let read = accepted-places (packetRefusal packet) (c .before .before .before .before .before .before .before .before .before .before .before .read .ensures) (c .before .before .before .before .before .before .before .before .before .parsed .given .1) in
-    let sixteen : places .id + 16 - places .id ≡ 16 = omega arith in
-    let whole : Sized (args .board .parameters) =
-    let good = c .before .before .before .before .before .before .before .before .before .before .before .before .before .before .before .before .before .before .before .before .good .0 .1 .1 .1 .1 .1 .1 .0 in
+    let k = c .before .before .before .before .before .before .before .before .before in
+    let call = asked (k .before .before .before .before .before .before .before .before) in
+    let legal = record-right (k .before .before .before .before .before .before) in
+    let room = buffer-right (k .before .before .before) in
+    let whole : Sized (call .board .parameters) =
+    let good = k .before .before .before .before .before .before .before .before .before .before .before .good .0 .1 .1 .1 .1 .1 .1 .0 in
     record { store = search (needs, good); schedule = search (needs, unmapped, good) } in
-    let same-frame = ap (λ (n : ℕ). requestOf (args .board) (frame (take n (drop (places .id) packet)) (take (places .function - places .password) (drop (places .password) packet)) (getD packet (places .function) 0) (take (places .end - places .block) (drop (places .block) packet)))) sixteen
-    ∙ ap (λ (p : Places). requestOf (args .board) (frameAt packet p)) (read .1) in
-    let room : 256 ≤ length buffer = ltb-false _ _ buffer-right in
     steps
-    (ap (λ (refusal : Option ℕ). outcomeBy refusal (request asked) buffer) (step-refusal-by asked record-right buffer-right (read .0) refl)
-    ∙ sym (answered-outcome (request asked) buffer (not-false _ record-right) whole (password-short packet (read .0)) room)
-    ∙ ap (λ (r : Request). answered r buffer) (sym same-frame))
+    (ap (λ (refusal : Option ℕ). outcomeBy refusal (request call) (call .buffer)) (step-refusal-by call legal room (read-right k .0) refl)
+    ∙ sym (answered-outcome (request call) (call .buffer) (not-false _ legal) whole (password-short (call .packet) (read-right k .0)) (ltb-false _ _ room))
+    ∙ ap (λ (r : Request). answered r (call .buffer)) (sym (same-request (call .board) (call .packet) (read-right k .1))))
     (c .before .before .answer .ensures)
 
 pub packet-spec : {M : Type 1} → statement M
@@ -198,7 +189,7 @@ packet-spec =
     read-requires
     enum-known-parsed
     enum-told-5
-    number-of-requires
+    number-read-requires
     refused-requires-3
     returns-3
     add-until

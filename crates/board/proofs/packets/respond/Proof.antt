@@ -3,16 +3,13 @@ use mathlib.Core.Path.{_≡_, refl, sym, ap, _∙_}
 use lib.ListN.{length}
 use lib.Seq.{length-take-le}
 use denote.Ref.{now}
-use native.Mathlib.Omega.{arith}
 use Rattle.framing.specs.Frame.{frame}
-use Rattle.board.specs.Answering.{respondedWith, responded, inIdentity, checked, scopeOf}
-use Rattle.model.specs.Step.{requestOf, isDiscovery}
-use Rattle.model.specs.Record.{passwordOf}
+use Rattle.board.specs.Answering.{respondedWith}
+use Rattle.model.specs.Step.{requestOf}
 use Rattle.commands.specs.declared.Ran.{Ran}
-use Rattle.commands.specs.declared.Scope.{Scope}
 use Rattle.model.specs.declared.Answer.the-variants.{Response}
-use Rattle.board.proofs.Responding.{leaves, leaves-as, ran-inside, responded-over, responded-silent, responded-long, responded-full, frame-written, frame-not-written}
-use Rattle.board.proofs.Checking.{passed, failed}
+use Rattle.board.proofs.Responding.{leaves, ran-inside, responded-over, responded-silent, responded-long, responded-full}
+use Rattle.framing.proofs.Answers.{frame-written, frame-not-written}
 use borrow.Author.Needs.{needs}
 use Rattle.board.proofs.packets.respond.Statement.{statement}
 use Rattle.board.proofs.packets.respond.Tie as tie

@@ -1,19 +1,16 @@
 -- `board::records::check_record` meets its contract.
-use mathlib.Core.Path.{_≡_, refl, sym, ap, _∙_}
-use mathlib.Core.Bool.{Bool, true, false, not, _&&_, _||_}
+use mathlib.Core.Path.{_≡_, sym, ap, _∙_}
+use mathlib.Core.Bool.{Bool, not}
 use native.Mathlib.Omega.{arith}
-use borrow.Author.Tests.{eq-eqb, ne-eqb, le-leb, lt-leb, lt-ltb, le-ltb, not-true, not-false}
-use denote.Ref.{now}
+use borrow.Author.Tests.{le-leb, lt-leb, not-true, not-false}
 use Prim.Native.Nat.{ℕ, _<_, _≤_}
-use mathlib.Core.List.{List}
 use lib.Dec.{leb}
 use lib.ListN.{length, take}
-use lib.Seq.{take-all, length-take-le}
+use lib.Seq.{length-take-le}
 use Rattle.octets.proofs.Booleans.{both-true}
-use Rattle.framing.specs.Identity.{allAlphanumeric, isPassword}
-use Rattle.board.specs.Answering.{checked}
-use Rattle.model.specs.Record.{isId, isMode, passwordOf}
-use Rattle.board.proofs.Checking.{passed, failed}
+use Rattle.framing.specs.Identity.{allAlphanumeric}
+use Rattle.framing.specs.Refusal.{checked}
+use Rattle.framing.proofs.Refusals.{passed, failed}
 use Rattle.board.proofs.Starting.{unsound-id, unsound-size, unsound-password, unsound-mode, unsound-entries, sound-rows, wrong-characters}
 use borrow.Author.Needs.{needs}
 use Rattle.board.proofs.records.check_record.Statement.{statement}

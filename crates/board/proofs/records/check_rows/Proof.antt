@@ -1,14 +1,12 @@
 -- `board::records::check_rows` meets its contract.
-use mathlib.Core.Path.{_≡_, refl, sym, ap, _∙_}
-use mathlib.Core.Bool.{Bool, true, false, not, _&&_, _||_}
-use borrow.Author.Tests.{eq-eqb, ne-eqb, le-leb, lt-leb, lt-ltb, le-ltb, not-true, not-false}
-use denote.Ref.{now}
-use mathlib.Core.List.{List, [], _∷_}
+use mathlib.Core.Path.{sym, ap, _∙_}
+use mathlib.Core.Bool.{not, _&&_}
+use borrow.Author.Tests.{not-true, not-false}
+use mathlib.Core.List.{List}
 use Prim.Native.Nat.{ℕ}
 use Rattle.octets.specs.Octets.{same}
 use Rattle.store.specs.Layout.{valueOf}
-use Rattle.store.specs.Sound.{sound as rowsSound}
-use Rattle.board.specs.Answering.{checked}
+use Rattle.framing.specs.Refusal.{checked}
 use Rattle.model.specs.Record.{micra}
 use borrow.Author.Needs.{needs}
 use Rattle.board.proofs.records.check_rows.Statement.{statement}

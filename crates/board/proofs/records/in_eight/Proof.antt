@@ -12,7 +12,7 @@ overwrite-requires : tie.Need-overwrite-requires
 overwrite-requires c κs = search needs
 
 returns : tie.Need-returns
-returns c = laid-by 8 (now (c .before .before .before .before .args .bytes)) (c .before .overwrite .ensures)
+returns c = laid-by 8 (now (c .before .before .before .before .args .bytes)) (c .before .before .before .before .pre) (c .before .overwrite .ensures)
 
 pub in-eight-spec : {M : Type 1} → statement M
 in-eight-spec = tie.close (tie.spec slice-aggregate-overwrite overwrite-requires returns)

@@ -1,11 +1,11 @@
 -- `board::records::measure` meets its contract.
-use mathlib.Core.Path.{_≡_, refl, sym, ap, _∙_}
+use mathlib.Core.Path.{refl, ap, _∙_}
 use denote.Ref.{now}
 use Rattle.store.specs.declared.Store.{Store}
 use Rattle.model.specs.Measurement.{measureCall}
 use Rattle.model.specs.Record.{parametersOf, withParameters}
 use Rattle.model.specs.declared.Verdict.the-variants.{Refused}
-use Rattle.board.proofs.Checking.{passed, failed}
+use Rattle.framing.proofs.Refusals.{passed, failed}
 use Rattle.board.proofs.Starting.{measure-refusal-by, measure-refused, measure-accepted, measured-as}
 use borrow.Author.Needs.{needs}
 use Rattle.board.proofs.records.measure.Statement.{statement}

@@ -1,14 +1,18 @@
 -- `board::records::set_up` meets its contract.
-use mathlib.Core.Path.{_≡_, refl, sym, ap, _∙_}
-use mathlib.Core.Bool.{Bool, true, false, not, _&&_, _||_}
+use mathlib.Core.Bool.{false, not}
+use mathlib.Core.Path.{_≡_, refl}
 use borrow.Author.Tests.{not-false}
 use denote.Ref.{now}
-use Rattle.model.specs.Record.{setUp}
-use Rattle.board.proofs.Checking.{passed, failed}
-use Rattle.board.proofs.Starting.{set-up-refusal-by, refused-set-up, record-start, accepted-set-up}
+use Rattle.framing.specs.Identity.{isPassword}
+use Rattle.model.specs.Record.{SetUp, isId, setUp}
+use Rattle.framing.proofs.Refusals.{passed, failed}
+use Rattle.board.proofs.Starting.{set-up-refusal-by, refused-set-up, right-lengths, accepted-set-up}
 use borrow.Author.Needs.{needs}
 use Rattle.board.proofs.records.set_up.Statement.{statement}
 use Rattle.board.proofs.records.set_up.Tie as tie
+
+abbrev given : tie.After-check-id → SetUp
+given c = setUp (now (c .before .before .before .args .id)) (now (c .before .before .before .args .password)) (c .before .before .before .args .mode)
 
 check-id-requires : tie.Need-check-id-requires
 check-id-requires c κs = search needs
@@ -24,9 +28,10 @@ refused-requires c κs = search needs
 
 returns : tie.Need-returns
 returns c =
-    let args = c .before .before .before .before .before .before .args in
-    let given = setUp (now (args .id)) (now (args .password)) (args .mode) in
-    refused-set-up given (set-up-refusal-by given (failed _ (c .before .before .before .check-id .ensures) (c .before .enum-told2 .given .1)) refl refl) (c .refused .ensures)
+    refused-set-up (given (c .before .before .before)) (set-up-refusal-by (given (c .before .before .before)) (failed _ (c .before .before .before .check-id .ensures) (c .before .enum-told2 .given .1)) refl refl) (c .refused .ensures)
+
+id-right : (c : tie.After-enum-told) → not (isId (given (c .before .before) .id)) ≡ false
+id-right c = passed _ (c .before .before .check-id .ensures) (c .enum-told .given .1)
 
 check-new-password-requires : tie.Need-check-new-password-requires
 check-new-password-requires c κs = search needs
@@ -42,10 +47,10 @@ refused-requires-2 c κs = search needs
 
 returns-2 : tie.Need-returns-2
 returns-2 c =
-    let args = c .before .before .before .before .before .before .before .before .before .args in
-    let given = setUp (now (args .id)) (now (args .password)) (args .mode) in
-    let id-right = passed _ (c .before .before .before .before .before .before .check-id .ensures) (c .before .before .before .before .enum-told .given .1) in
-    refused-set-up given (set-up-refusal-by given id-right (failed _ (c .before .before .before .check-new-password .ensures) (c .before .enum-told4 .given .1)) refl) (c .refused2 .ensures)
+    refused-set-up (given (c .before .before .before .before .before .before)) (set-up-refusal-by (given (c .before .before .before .before .before .before)) (id-right (c .before .before .before .before)) (failed _ (c .before .before .before .check-new-password .ensures) (c .before .enum-told4 .given .1)) refl) (c .refused2 .ensures)
+
+password-right : (c : tie.After-enum-told3) → not (isPassword (given (c .before .before .before .before .before) .password)) ≡ false
+password-right c = passed _ (c .before .before .check-new-password .ensures) (c .enum-told3 .given .1)
 
 check-mode-requires : tie.Need-check-mode-requires
 check-mode-requires c κs = search needs
@@ -61,23 +66,15 @@ refused-requires-3 c κs = search needs
 
 returns-3 : tie.Need-returns-3
 returns-3 c =
-    let args = c .before .before .before .before .before .before .before .before .before .before .before .before .args in
-    let given = setUp (now (args .id)) (now (args .password)) (args .mode) in
-    let id-right = passed _ (c .before .before .before .before .before .before .before .before .before .check-id .ensures) (c .before .before .before .before .before .before .before .enum-told .given .1) in
-    let password-right = passed _ (c .before .before .before .before .before .before .check-new-password .ensures) (c .before .before .before .before .enum-told3 .given .1) in
-    refused-set-up given (set-up-refusal-by given id-right password-right (failed _ (c .before .before .before .check-mode .ensures) (c .before .enum-told6 .given .1))) (c .refused3 .ensures)
+    refused-set-up (given (c .before .before .before .before .before .before .before .before .before)) (set-up-refusal-by (given (c .before .before .before .before .before .before .before .before .before)) (id-right (c .before .before .before .before .before .before .before)) (password-right (c .before .before .before .before)) (failed _ (c .before .before .before .check-mode .ensures) (c .before .enum-told6 .given .1))) (c .refused3 .ensures)
 
 start-requires : tie.Need-start-requires
-start-requires c κs = search needs
+start-requires c κs = right-lengths (given (c .before .before .before .before .before .before .before .before)) (not-false _ (id-right (c .before .before .before .before .before .before))) (not-false _ (password-right (c .before .before .before)))
 
 returns-4 : tie.Need-returns-4
 returns-4 c =
-    let args = c .before .before .before .before .before .before .before .before .before .before .before .before .args in
-    let given = setUp (now (args .id)) (now (args .password)) (args .mode) in
-    let id-right = passed _ (c .before .before .before .before .before .before .before .before .before .check-id .ensures) (c .before .before .before .before .before .before .before .enum-told .given .1) in
-    let password-right = passed _ (c .before .before .before .before .before .before .check-new-password .ensures) (c .before .before .before .before .enum-told3 .given .1) in
     let mode-right = passed _ (c .before .before .before .check-mode .ensures) (c .before .enum-told5 .given .1) in
-    accepted-set-up given (set-up-refusal-by given id-right password-right mode-right) refl (c .start .ensures ∙ record-start given (not-false _ id-right) (not-false _ password-right))
+    accepted-set-up (given (c .before .before .before .before .before .before .before .before .before)) (set-up-refusal-by (given (c .before .before .before .before .before .before .before .before .before)) (id-right (c .before .before .before .before .before .before .before)) (password-right (c .before .before .before .before)) mode-right) refl (c .start .ensures)
 
 pub set-up-spec : {M : Type 1} → statement M
 set-up-spec =
