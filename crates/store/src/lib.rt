@@ -9,12 +9,12 @@ ghost use Rattle.store.specs.Operations.{found, inverts as invertsOf, in
 ghost use Rattle.store.specs.Operations.{written, raised, lowered, measurable, measurement, Measures, answer};
 ghost use Rattle.store.specs.Start.{start as startOf};
 ghost use Rattle.store.specs.Sound.{sound as soundOf};
-ghost use Rattle.store.specs.Temperatures.{temperatureIn};
 
 mod columns;
 mod layout;
 mod sets;
 mod temperatures;
+mod tenths;
 
 use columns::allows;
 use columns::index_of;
@@ -27,9 +27,6 @@ use sets::Next;
 use sets::is_member;
 use sets::neighbour;
 use sets::number_of;
-use temperatures::is_measured;
-use temperatures::is_whole;
-use temperatures::read_measured;
 use temperatures::store_value;
 
 // A store: each row's value in its room, the rooms one behind the other.
@@ -71,35 +68,17 @@ pub struct Measured {
     pub store: Store,
 }
 
-// A measured temperature, in tenths of a degree.
-pub struct Tenths {
-    pub tenths: i16,
+// What a row's value is measured in, if it is a temperature.
+pub enum Quantity {
+    Plain,
+    Tenths,
+    WholeDegrees,
 }
 
 // A temperature setpoint.
 #[repr(C)]
 pub struct WholeDegrees {
     pub degrees: u8,
-}
-
-// Whether a temperature was stored in a row of its own kind.
-pub enum Placing {
-    Stored,
-    OtherRow,
-}
-
-pub struct Placed {
-    pub answer: Placing,
-    pub store: Store,
-}
-
-// A parameter read as a temperature.
-pub enum Temperature {
-    InTenths(Tenths),
-    InDegrees(WholeDegrees),
-    SensorMissing,
-    ShortCircuit,
-    NotTemperature,
 }
 
 // Looks a number up in the table of rows.
@@ -281,19 +260,4 @@ pub fn sound(store: Store) -> bool
         }
     }
     true
-}
-
-// The temperature that a parameter holds.
-pub fn read_temperature(bytes: &[u8], number: u16) -> Temperature
-    ensures { λ r. ⌜ r ≡ temperatureIn (now (bytes .entry)) number ⌝ }
-{
-    let value = held(bytes, number);
-    if is_measured(number) {
-        return read_measured(value);
-    }
-    if is_whole(number) {
-        let degrees = octets::byte_at(value, 0);
-        return Temperature::InDegrees(WholeDegrees { degrees });
-    }
-    Temperature::NotTemperature
 }
