@@ -224,16 +224,18 @@ pub fn measure(store: Store, number: u16, value: &[u8]) -> Measured
 }
 
 // What a command is answered with.
-pub fn answered_with(function: u8, number: u16, value: &[u8]) -> Answer
-    ensures { λ r. ⌜ r ≡ answer function number (now (value .entry)) ⌝ }
+pub fn answered_with(function: u8, number: u16) -> Answer
+    ensures { λ r. ⌜ r ≡ answer function number ⌝ }
 {
-    if function == 2 {
-        return Answer::Silence;
+    match function {
+        2 => Answer::Silence,
+        _ => {
+            if allows(number, 1) {
+                return Answer::Value;
+            }
+            Answer::Unknown
+        }
     }
-    if allows(number, 1) {
-        return Answer::Value;
-    }
-    Answer::Unknown
 }
 
 // The store as set-up leaves it, with the board's ID.
