@@ -88,10 +88,10 @@ fn is_selected(scope: Scope, number: u16) -> bool
 
 // What a command of a row reports, behind what is written.
 fn report_row(store: Store, draft: Draft, function: u8, page: u8, low: u8, value: &[u8]) -> Draft
-    ensures { λ r. ⌜ r ≡ drafted draft (rowReport (answer function (parameterNumber page low) (now (value .entry))) store (commandOf function page low (now (value .entry)))) ⌝ }
+    ensures { λ r. ⌜ r ≡ drafted draft (rowReport (answer function (parameterNumber page low)) store (commandOf function page low (now (value .entry)))) ⌝ }
 {
     let number = number_of(page, low);
-    match store::answered_with(function, number, value) {
+    match store::answered_with(function, number) {
         store::Answer::Silence => draft,
         store::Answer::Unknown => draft::with_unknown(draft, page, low),
         store::Answer::Value => {

@@ -42,7 +42,7 @@ returns c =
     let args = c .before .before .before .before .before .args in
     ap (λ (kind : Answer). drafted (args .draft) (rowReport kind (args .t1) (commandOf (args .function) (args .page) (args .low) (now (args .value)))))
     (sym (c .enum-told .given .1) ∙ c .before .before .answered-with .ensures
-    ∙ ap (λ (n : ℕ). answer (args .function) n (now (args .value))) (c .before .before .before .number-of .ensures))
+    ∙ ap (λ (n : ℕ). answer (args .function) n) (c .before .before .before .number-of .ensures))
 
 returns-2 : tie.Need-returns-2
 returns-2 c =
@@ -50,7 +50,7 @@ returns-2 c =
     c .with-unknown .ensures
     ∙ ap (λ (kind : Answer). drafted (args .draft) (rowReport kind (args .t1) (commandOf (args .function) (args .page) (args .low) (now (args .value)))))
     (sym (c .before .enum-told2 .given .1) ∙ c .before .before .before .answered-with .ensures
-    ∙ ap (λ (n : ℕ). answer (args .function) n (now (args .value))) (c .before .before .before .before .number-of .ensures))
+    ∙ ap (λ (n : ℕ). answer (args .function) n) (c .before .before .before .before .number-of .ensures))
 
 returns-3 : tie.Need-returns-3
 returns-3 c =
@@ -60,7 +60,7 @@ returns-3 c =
     ∙ ap (λ (value : List ℕ). drafted (args .draft) (held (args .page) (args .low) value ∷ [])) (c .before .held .ensures ∙ ap (valueIn (args .t1 .bytes)) named)
     ∙ ap (λ (kind : Answer). drafted (args .draft) (rowReport kind (args .t1) (commandOf (args .function) (args .page) (args .low) (now (args .value)))))
     (sym (c .before .before .before .before .before .enum-told3 .given .1) ∙ c .before .before .before .before .before .before .before .answered-with .ensures
-    ∙ ap (λ (n : ℕ). answer (args .function) n (now (args .value))) named)
+    ∙ ap (λ (n : ℕ). answer (args .function) n) named)
 
 pub report-row-spec : {M : Type 1} → statement M
 report-row-spec =
