@@ -179,10 +179,7 @@ pub fn lower(store: Store, number: u16) -> Store
 fn is_identity(number: u16) -> bool
     ensures { λ r. ⌜ r ≡ isIdentity number ⌝ }
 {
-    if number == 0x007C {
-        return true;
-    }
-    number == 0x00B9
+    number == 0x007C || number == 0x00B9
 }
 
 fn is_measurable(number: u16) -> bool

@@ -91,10 +91,7 @@ fn three_fields(value: &[u8], low: u8, first: u8, second: u8, third: u8) -> bool
 fn is_clock(value: &[u8]) -> bool
     ensures { λ r. ⌜ r ≡ member Clock (now (value .entry)) ⌝ }
 {
-    if value.len() != 3 {
-        return false;
-    }
-    three_fields(value, 0, 59, 59, 23)
+    value.len() == 3 && three_fields(value, 0, 59, 59, 23)
 }
 
 fn is_calendar(value: &[u8]) -> bool
@@ -112,10 +109,7 @@ fn is_calendar(value: &[u8]) -> bool
 fn is_switch(value: &[u8]) -> bool
     ensures { λ r. ⌜ r ≡ member Switch (now (value .entry)) ⌝ }
 {
-    if value.len() != 1 {
-        return false;
-    }
-    value[0] <= 1
+    value.len() == 1 && value[0] <= 1
 }
 
 // Whether the row of a setpoint may hold a temperature.
