@@ -1,8 +1,9 @@
 // The parameter store: what each row holds, and what reading, writing and measuring make of it.
 ghost use mathlib.Core.Bool.{cond};
 ghost use mathlib.Core.List.{[], _∷_};
+ghost use mathlib.Core.Option.{none};
 ghost use mathlib.Core.Path.{_≡_};
-ghost use Rattle.store.specs.Rows.{rowOf, isIdentity};
+ghost use Rattle.store.specs.Rows.{rowOf, allows as allowsOf, isIdentity};
 ghost use Rattle.store.specs.Sets.{leastAbove, greatestBelow};
 ghost use Rattle.store.specs.Layout.{setAt, valueIn, valueOf};
 ghost use Rattle.store.specs.Operations.{found, inverts as invertsOf, inverse as inverseOf, neighbour as neighbourOf, stored};
@@ -138,9 +139,13 @@ pub fn write(store: Store, number: u16, value: &[u8]) -> Store
     store
 }
 
-fn move_to_neighbour(store: Store, number: u16, up: bool) -> Store
-    ensures { λ r. ⌜ r ≡ stored store number (neighbourOf (cond up leastAbove greatestBelow) (rowOf number .set) (valueOf store number)) ⌝ }
+// The next value up or down, where the row allows the function.
+fn move_to_neighbour(store: Store, number: u16, function: u8, up: bool) -> Store
+    ensures { λ r. ⌜ r ≡ stored store number (cond (allowsOf number function) (neighbourOf (cond up leastAbove greatestBelow) (rowOf number .set) (valueOf store number)) none) ⌝ }
 {
+    if !allows(number, function) {
+        return store;
+    }
     let index = index_of(number);
     if kind_at(index) != columns::NUMBER {
         return store;
@@ -160,20 +165,14 @@ fn move_to_neighbour(store: Store, number: u16, up: bool) -> Store
 pub fn raise(store: Store, number: u16) -> Store
     ensures { λ r. ⌜ r ≡ raised store number ⌝ }
 {
-    if allows(number, 4) {
-        return move_to_neighbour(store, number, true);
-    }
-    store
+    move_to_neighbour(store, number, 4, true)
 }
 
 // Function 05: the greatest value below the one held.
 pub fn lower(store: Store, number: u16) -> Store
     ensures { λ r. ⌜ r ≡ lowered store number ⌝ }
 {
-    if allows(number, 5) {
-        return move_to_neighbour(store, number, false);
-    }
-    store
+    move_to_neighbour(store, number, 5, false)
 }
 
 fn is_identity(number: u16) -> bool
