@@ -17,7 +17,8 @@ use Rattle.store.specs.Rows.{Set, Row, rows, rowAt}
 use Rattle.store.specs.Sets.{numberOf, bytesOf}
 use Rattle.store.specs.Layout.{sizeOf, isText, filled, setAt, placeAt, toRoom, overwritten, withValueAt}
 use Rattle.store.specs.Temperatures.{sensorMissing, shortCircuit, isMark, tenthsOf, bitsOf, readingOf}
-use Rattle.store.proofs.Bools.{both, tested}
+use Rattle.octets.proofs.Booleans.{both-true}
+use Rattle.store.proofs.Bools.{tested}
 use Rattle.store.proofs.Tables.{each-row, in-or-past}
 
 -- a room of one byte, and of two
@@ -48,7 +49,7 @@ fits-row r = fits (r .quantity) (r .set)
 
 same-room : (size : ℕ) (set : Set) (v : List ℕ) → holds size set ≡ true → toRoom set v ≡ filled size v
 unfolding holds
-same-room size set v e = by (isText set) refl (both (eqb (sizeOf set) size) (not (isText set)) e)
+same-room size set v e = by (isText set) refl (both-true (eqb (sizeOf set) size) (not (isText set)) e)
   where
     by : (b : Bool) → isText set ≡ b → (eqb (sizeOf set) size ≡ true) × (not b ≡ true) → toRoom set v ≡ filled size v
     by true t h = absurd (false≢true (h .1))
@@ -61,7 +62,7 @@ row-fits k q e = ap (λ (p : Quantity). fits p (setAt k)) (sym e) ∙ tested (fi
 -- the one byte of whole degrees is its number
 pub degrees-number : (k : ℕ) (v : List ℕ) → rowAt k .quantity ≡ quantity.WholeDegrees → length v ≡ sizeOf (setAt k) → getD v 0 0 ≡ numberOf v
 unfolding fits holds
-degrees-number k v e h = by v (h ∙ eqb-true (sizeOf (setAt k)) 1 (both (eqb (sizeOf (setAt k)) 1) (not (isText (setAt k))) (row-fits k quantity.WholeDegrees e) .0))
+degrees-number k v e h = by v (h ∙ eqb-true (sizeOf (setAt k)) 1 (both-true (eqb (sizeOf (setAt k)) 1) (not (isText (setAt k))) (row-fits k quantity.WholeDegrees e) .0))
   where
     by : (w : List ℕ) → length w ≡ 1 → getD w 0 0 ≡ numberOf w
     by [] p = refl
@@ -73,11 +74,11 @@ bits-back : (bits : ℕ) → bits < 0x10000 → bitsOf (tenthsOf bits .tenths) �
 bits-back bits h = ⊎-elim (λ k. simp (lt-ltb bits 0x8000 k)) (λ k. simp (le-ltb bits 0x8000 k) (omega arith)) (in-or-past bits 0x8000)
 
 -- a temperature that is read of two bytes is no mark, and has their bits
-pub record Told (v : List ℕ) (t : Tenths) : Type 0 where
-  pub unmarked : isMark (bitsOf (t .tenths)) ≡ false
-  pub same : bitsOf (t .tenths) ≡ numberOf v
+record Told (v : List ℕ) (t : Tenths) : Type 0 where
+  no-mark : isMark (bitsOf (t .tenths)) ≡ false
+  same : bitsOf (t .tenths) ≡ numberOf v
 
-pub told : (v : List ℕ) (t : Tenths) → ((i : ℕ) → getD v i 0 < 256) → readingOf (numberOf v) ≡ Temperature t → Told v t
+told : (v : List ℕ) (t : Tenths) → ((i : ℕ) → getD v i 0 < 256) → readingOf (numberOf v) ≡ Temperature t → Told v t
 told v t b e = by (eqb (numberOf v) sensorMissing) refl (eqb (numberOf v) shortCircuit) refl
   where
     by : (m : Bool) → eqb (numberOf v) sensorMissing ≡ m → (s : Bool) → eqb (numberOf v) shortCircuit ≡ s → Told v t
@@ -86,19 +87,22 @@ told v t b e = by (eqb (numberOf v) sensorMissing) refl (eqb (numberOf v) shortC
     by false p false q =
         let read : t ≡ tenthsOf (numberOf v) = cc (rw (p, q) at e) in
         let same : bitsOf (t .tenths) ≡ numberOf v = ap (λ (x : Tenths). bitsOf (x .tenths)) read ∙ bits-back (numberOf v) (omega (arith, b 0, b 1)) in
-        record { unmarked = rw (same, p, q); same = same }
+        record { no-mark = rw (same, p, q); same = same }
+
+pub unmarked : (v : List ℕ) (t : Tenths) → ((i : ℕ) → getD v i 0 < 256) → readingOf (numberOf v) ≡ Temperature t → isMark (bitsOf (t .tenths)) ≡ false
+unmarked v t b e = told v t b e .no-mark
 
 pub tenths-stored : (s : Store) (k : ℕ) (v : List ℕ) (t : Tenths) → ((i : ℕ) → getD v i 0 < 256) → rowAt k .quantity ≡ quantity.Tenths
-    → Told v t → withValueAt s k (bytesOf 2 (bitsOf (t .tenths))) ≡ withValueAt s k v
+    → readingOf (numberOf v) ≡ Temperature t → withValueAt s k (bytesOf 2 (bitsOf (t .tenths))) ≡ withValueAt s k v
 unfolding fits
-tenths-stored s k v t b e h =
+tenths-stored s k v t b e read =
     let fit = row-fits k quantity.Tenths e in
     let low : numberOf v % 256 ≡ getD v 0 0 = omega (arith, b 0, b 1) in
     let top : numberOf v / 256 ≡ getD v 1 0 = omega (arith, b 0, b 1) in
     let high : getD v 1 0 % 256 ≡ getD v 1 0 = omega (arith, b 1) in
     ap (overwritten s (placeAt k))
     (same-room 2 (setAt k) (bytesOf 2 (bitsOf (t .tenths))) fit
-    ∙ rw (h .same, low, top, high) (sym (filled-two v))
+    ∙ rw (told v t b read .same, low, top, high) (sym (filled-two v))
     ∙ sym (same-room 2 (setAt k) v fit))
 
 pub degrees-stored : (s : Store) (k : ℕ) (v : List ℕ) → rowAt k .quantity ≡ quantity.WholeDegrees → withValueAt s k (getD v 0 0 ∷ []) ≡ withValueAt s k v

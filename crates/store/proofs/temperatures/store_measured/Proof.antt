@@ -3,7 +3,7 @@ use native.Mathlib.Omega.{arith}
 use mathlib.Core.Path.{sym, _∙_}
 use borrow.Author.Needs.{needs}
 use denote.Ref.{now}
-use Rattle.store.proofs.Degrees.{told, tenths-stored}
+use Rattle.store.proofs.Degrees.{unmarked, tenths-stored}
 use Rattle.store.proofs.temperatures.store_measured.Statement.{statement}
 use Rattle.store.proofs.temperatures.store_measured.Tie as tie
 
@@ -29,8 +29,8 @@ store-tenths-requires c κs =
     let number = reading .before in
     let slice = number .before in (
       slice .before .pre,
-      told (now (slice .before .args .value)) _ (λ i. omega (arith, slice .shared-slice-known .given i))
-          (rw (number .number-of .ensures) at (sym (reading .reading-of .ensures) ∙ temperature .temperature .given .1)) .unmarked,
+      unmarked (now (slice .before .args .value)) _ (λ i. omega (arith, slice .shared-slice-known .given i))
+          (rw (number .number-of .ensures) at (sym (reading .reading-of .ensures) ∙ temperature .temperature .given .1)),
     )
 
 returns-2 : tie.Need-returns-2
@@ -42,8 +42,7 @@ returns-2 c =
     let start = slice .before .args in
     c .store-tenths .ensures
     ∙ tenths-stored (start .store) (start .index) (now (start .value)) _ (λ i. omega (arith, slice .shared-slice-known .given i)) (slice .before .pre)
-    (told (now (start .value)) _ (λ i. omega (arith, slice .shared-slice-known .given i))
-    (rw (number .number-of .ensures) at (sym (reading .reading-of .ensures) ∙ temperature .temperature .given .1)))
+    (rw (number .number-of .ensures) at (sym (reading .reading-of .ensures) ∙ temperature .temperature .given .1))
 
 pub store-measured-spec : {M : Type 1} → statement M
 store-measured-spec =
