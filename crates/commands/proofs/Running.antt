@@ -55,7 +55,7 @@ unfolding reported
 reported-entry p c h = rw h
 
 reported-row :
-    (p : Parameters) (c : Command) → isSchedule c ≡ false → reported p c ≡ rowReport (answer (c .function) (commandNumber c) (c .value)) (p .store) c
+    (p : Parameters) (c : Command) → isSchedule c ≡ false → reported p c ≡ rowReport (answer (c .function) (commandNumber c)) (p .store) c
 unfolding reported
 reported-row p c h = rw h
 
@@ -73,7 +73,7 @@ module _ (scope : Scope) (p : Parameters) (draft : Draft) (c : Command) {number 
 
   pub report-of-row :
       chosen ≡ true → (number ≡ scheduleNumber → ⊥)
-      → drafted draft (rowReport (answer (c .function) (commandNumber c) (c .value)) (p .store) c) ≡ drafted draft (reportedIn scope p c)
+      → drafted draft (rowReport (answer (c .function) (commandNumber c)) (p .store) c) ≡ drafted draft (reportedIn scope p c)
   report-of-row h other = ap (drafted draft) (sym (reported-row p c (ne-eqb _ _ (λ e. other (named ∙ e))))) ∙ reported-by h
 
 -- the rows of the identity

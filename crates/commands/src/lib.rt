@@ -97,10 +97,10 @@ fn report_row(
     low: u8,
     value: &[u8],
 ) -> Cursor
-    ensures { λ r. ⌜ draftAt (now (bytes .exit)) r ≡ drafted (draftAt (now (bytes .entry)) cursor) (rowReport (answer function (parameterNumber page low) (now (value .entry))) store (commandOf function page low (now (value .entry)))) ⌝ }
+    ensures { λ r. ⌜ draftAt (now (bytes .exit)) r ≡ drafted (draftAt (now (bytes .entry)) cursor) (rowReport (answer function (parameterNumber page low)) store (commandOf function page low (now (value .entry)))) ⌝ }
 {
     let number = number_of(page, low);
-    match store::answered_with(function, number, value) {
+    match store::answered_with(function, number) {
         store::Answer::Silence => cursor,
         store::Answer::Unknown => draft::write_unknown(bytes, cursor, page, low),
         store::Answer::Value => {

@@ -54,7 +54,7 @@ entryReport entry.Silence schedule c = []
 unfoldable pub reported : Parameters → Command → List Report
 reported parameters c =
     cond (isSchedule c) (entryReport (entries.answered (c .function) (c .value)) (parameters .schedule) c)
-    (rowReport (answer (c .function) (commandNumber c) (c .value)) (parameters .store) c)
+    (rowReport (answer (c .function) (commandNumber c)) (parameters .store) c)
 
 -- the parameters after commands in order, and their reports
 unfoldable pub run : Parameters → List Command → Parameters

@@ -1,72 +1,66 @@
 -- The laws of the schedule's operations.
-use Prim.Native.Nat.{ℕ, _≤_}
+use Prim.Native.Nat.{ℕ}
 use native.Mathlib.Omega.{arith}
-use mathlib.Core.Bool.{Bool, true, false, cond, _&&_, _||_, and-false, or-true}
+use mathlib.Core.Bool.{Bool, true, false, cond, _&&_, _||_, and-false}
 use mathlib.Core.List.{List, [], _∷_}
 use mathlib.Core.Path.{_≡_, refl, ap, _∙_}
-use borrow.Author.Tests.{eq-eqb, eqb-true, eqb-false, leb-true}
-use lib.Dec.{eqb, leb}
-use lib.ListN.{length, getD, set, drop, length-set, drop-of-length-le}
+use borrow.Author.Tests.{eq-eqb, eqb-true, eqb-false}
+use lib.Dec.{eqb}
+use lib.ListN.{length, getD, drop, length-set, drop-of-length-le}
 use lib.Seq.{drop-cons, getD-set-same, getD-set-other}
 use Rattle.octets.proofs.Booleans.{both-true}
-use Rattle.octets.specs.Octets.{between}
 use Rattle.schedule.specs.declared.Entry.{Entry}
 use Rattle.schedule.specs.declared.Schedule.{Schedule}
-use Rattle.schedule.specs.Days.{isDay, isPeriod, daysOf, isWritable, contains}
-use Rattle.schedule.specs.Entries.{legal, bytesOf, lowest, entryCount, placeOf, entryAt, withDays, allLegal, sound}
+use Rattle.schedule.specs.Days.{isPeriod, hasEntry, daysOf, isWritable, contains}
+use Rattle.schedule.specs.Entries.{legal, bytesOf, lowest, entryCount, placeOf, entryAt, withEntry, withDays, allLegal, sound}
 use Rattle.schedule.specs.Operations.{dayIn, periodIn, entryIn, writes, stores, withEntryIn, written}
 use Rattle.schedule.specs.Laws.{Sized, isFor, WriteExact, ReadBack, SizeKept, SoundKept, StartSized, StartSound}
+use Rattle.schedule.proofs.Places.{bounds, entry-kept}
 use Rattle.schedule.proofs.Spans.{contained-days}
 use Rattle.schedule.proofs.Soundness.{legal-set}
 
 -- an entry in the place of those of one period on some days
 module _ (period : ℕ) (new : Entry) where
+  length-entry : (entries : List Entry) (day : ℕ) → length (withEntry entries day period new) ≡ length entries
+  length-entry entries day =
+      entry-kept (λ (l : List Entry). length l ≡ length entries) entries day period new refl (λ e. length-set entries (placeOf day period) new)
+
   length-days : (days : List ℕ) (entries : List Entry) → length (withDays entries days period new) ≡ length entries
   unfolding withDays
   length-days [] entries = refl
-  length-days (day ∷ days) entries = length-days days (set entries (placeOf day period) new) ∙ length-set entries (placeOf day period) new
+  length-days (day ∷ days) entries = length-days days (withEntry entries day period new) ∙ length-entry entries day
 
   legal-days : (days : List ℕ) (entries : List Entry) → allLegal entries ≡ true → legal new ≡ true → allLegal (withDays entries days period new) ≡ true
   unfolding withDays
   legal-days [] entries e h = e
-  legal-days (day ∷ days) entries e h = legal-days days (set entries (placeOf day period) new) (legal-set entries (placeOf day period) new e h) h
+  legal-days (day ∷ days) entries e h =
+      legal-days days (withEntry entries day period new)
+      (entry-kept (λ (l : List Entry). allLegal l ≡ true) entries day period new e (λ k. legal-set entries (placeOf day period) new e h))
+      h
 
-within : (low high number : ℕ) → between low high number ≡ true → (low ≤ number) × (number ≤ high)
-within low high number e =
-    let parts = both-true (leb low number) (leb number high) e in
-    (leb-true low number (parts .0), leb-true number high (parts .1))
-
--- where a day and a period lie
-record Bounds (day period : ℕ) : Type 0 where
-  day-low : 1 ≤ day
-  day-high : day ≤ 7
-  period-low : 1 ≤ period
-  period-high : period ≤ 4
-
-bounds : (day period : ℕ) → isDay day ≡ true → isPeriod period ≡ true → Bounds day period
-bounds day period d p =
-    let day-bounds = within 1 7 day d in
-    let period-bounds = within 1 4 period p in
-    record { day-low = day-bounds .0; day-high = day-bounds .1; period-low = period-bounds .0; period-high = period-bounds .1 }
-
--- the entry at a day and a period, once another stands at a day and a period
-module _ (entries : List Entry) (new : Entry) (sized : length entries ≡ entryCount) (written day period other : ℕ) (at : Bounds written period) (asked : Bounds day other) where
-  set-there : written ≡ day → period ≡ other → getD (set entries (placeOf written period) new) (placeOf day other) lowest ≡ new
+-- the entry of a day and a period, once another stands at a day and a period
+module _ (entries : List Entry) (new : Entry) (sized : length entries ≡ entryCount) (written day period other : ℕ) (asked : hasEntry day other ≡ true) where
+  set-there : written ≡ day → period ≡ other → getD (withEntry entries written period new) (placeOf day other) lowest ≡ new
   set-there d p =
-      let same : placeOf written period ≡ placeOf day other = omega arith in
-      rw same (getD-set-same entries (placeOf day other) new lowest (omega arith))
+      let within = bounds day other asked in
+      rw (d, p, asked) (getD-set-same entries (placeOf day other) new lowest (omega arith))
 
-  set-elsewhere : (written ≡ day → period ≡ other → ⊥) → getD (set entries (placeOf written period) new) (placeOf day other) lowest ≡ getD entries (placeOf day other) lowest
+  set-elsewhere :
+      (written ≡ day → period ≡ other → ⊥)
+      → getD (withEntry entries written period new) (placeOf day other) lowest ≡ getD entries (placeOf day other) lowest
   set-elsewhere differ =
-      getD-set-other entries (placeOf written period) (placeOf day other) new lowest (λ e. differ (omega arith) (omega arith))
+      let within = bounds day other asked in
+      entry-kept (λ (l : List Entry). getD l (placeOf day other) lowest ≡ getD entries (placeOf day other) lowest) entries written period new refl
+      (λ e. let place = bounds written period e in
+      getD-set-other entries (placeOf written period) (placeOf day other) new lowest (λ same. differ (omega arith) (omega arith)))
 
   set-turn : (later : Bool)
-      → cond (later && eqb period other) new (getD (set entries (placeOf written period) new) (placeOf day other) lowest)
+      → cond (later && eqb period other) new (getD (withEntry entries written period new) (placeOf day other) lowest)
       ≡ cond ((eqb written day || later) && eqb period other) new (getD entries (placeOf day other) lowest)
   set-turn later = choose (eqb written day) later (eqb period other) refl refl
     where
       choose : (a later b : Bool) → eqb written day ≡ a → eqb period other ≡ b
-          → cond (later && b) new (getD (set entries (placeOf written period) new) (placeOf day other) lowest)
+          → cond (later && b) new (getD (withEntry entries written period new) (placeOf day other) lowest)
           ≡ cond ((a || later) && b) new (getD entries (placeOf day other) lowest)
       choose a later false p q = rw (and-false later, and-false (a || later)) (set-elsewhere (λ d e. eqb-false period other q e))
       choose true true true p q = refl
@@ -74,19 +68,14 @@ module _ (entries : List Entry) (new : Entry) (sized : length entries ≡ entryC
       choose false true true p q = refl
       choose false false true p q = set-elsewhere (λ d e. eqb-false written day p d)
 
--- each of the days is one
-abbrev Days : List ℕ → Type 0
-Days days = (day : ℕ) → contains days day ≡ true → isDay day ≡ true
-
-days-at : (days : List ℕ) (entries : List Entry) (period : ℕ) (new : Entry) (day other : ℕ)
-    → length entries ≡ entryCount → Days days → isPeriod period ≡ true → Bounds day other
+days-at : (days : List ℕ) (entries : List Entry) (period : ℕ) (new : Entry) (day other : ℕ) → length entries ≡ entryCount → hasEntry day other ≡ true
     → getD (withDays entries days period new) (placeOf day other) lowest
     ≡ cond (contains days day && eqb period other) new (getD entries (placeOf day other) lowest)
 unfolding withDays contains
-days-at [] entries period new day other sized each p asked = refl
-days-at (first ∷ rest) entries period new day other sized each p asked =
-    days-at rest (set entries (placeOf first period) new) period new day other (length-set entries (placeOf first period) new ∙ sized) (λ d h. each d (rw h (or-true (eqb first d)))) p asked
-    ∙ set-turn entries new sized first day period other (bounds first period (each first (rw (eq-eqb first first refl))) p) asked (contains rest day)
+days-at [] entries period new day other sized asked = refl
+days-at (first ∷ rest) entries period new day other sized asked =
+    days-at rest (withEntry entries first period new) period new day other (length-entry period new entries first ∙ sized) asked
+    ∙ set-turn entries new sized first day period other asked (contains rest day)
 
 -- what a value has whose entry is stored
 record Stored (value : List ℕ) : Type 0 where
@@ -119,13 +108,12 @@ sound-kept schedule value e =
     (λ s. legal-days (periodIn value) (entryIn value) (daysOf (dayIn value)) (schedule .entries) e (s .entry))
 
 pub write-exact : WriteExact
-write-exact schedule value day period sized d p = choose (stores value) refl
+write-exact schedule value day period sized d p = rw (d, p) (choose (stores value) refl)
   where
     choose : (b : Bool) → stores value ≡ b
-        → entryAt (cond b (withEntryIn schedule value) schedule) day period
-        ≡ cond (b && isFor value day period) (entryIn value) (entryAt schedule day period)
-    choose true e =
-        days-at (daysOf (dayIn value)) (schedule .entries) (periodIn value) (entryIn value) day period sized (contained-days (dayIn value)) (stored value e .period) (bounds day period d p)
+        → getD (cond b (withEntryIn schedule value) schedule .entries) (placeOf day period) lowest
+        ≡ cond (b && isFor value day period) (entryIn value) (getD (schedule .entries) (placeOf day period) lowest)
+    choose true e = days-at (daysOf (dayIn value)) (schedule .entries) (periodIn value) (entryIn value) day period sized (rw (d, p))
     choose false e = refl
 
 -- the bytes of a value of six behind its first

@@ -1,4 +1,5 @@
 pub mod Lengths
+pub mod Places
 pub mod Spans
 pub mod Writing
 pub mod Soundness

@@ -8,14 +8,14 @@ use mathlib.Core.Logic.{⊎-elim}
 use mathlib.Core.Path.{_≡_, refl, subst}
 use borrow.Author.Tests.{eqb-true}
 use lib.Dec.{eqb}
-use lib.ListN.{length, getD, set}
+use lib.ListN.{length, getD}
 use Rattle.octets.proofs.Booleans.{both-true}
 use Rattle.store.proofs.Bools.{either}
 use Rattle.schedule.specs.declared.Entry.{Entry}
 use Rattle.schedule.specs.declared.Span.{Span}
 use Rattle.schedule.specs.declared.Span.the-variants.{Until, Nothing}
 use Rattle.schedule.specs.Days.{isDay, isPeriod, contains, isEmpty, isWritable, firstDay, daysOf}
-use Rattle.schedule.specs.Entries.{placeOf, withDays}
+use Rattle.schedule.specs.Entries.{withEntry, withDays}
 use Rattle.schedule.specs.Operations.{dayIn, periodIn, writes}
 use Rattle.schedule.specs.Spans.{spanOf, spanIn, daysFrom}
 
@@ -34,7 +34,7 @@ no-days first end h =
 
 pub days-turn : (entries : List Entry) (first end period : ℕ) (new : Entry) → first < end
     → withDays entries (daysFrom (end - first) first) period new
-    ≡ withDays (set entries (placeOf first period) new) (daysFrom (end - (first + 1)) (first + 1)) period new
+    ≡ withDays (withEntry entries first period new) (daysFrom (end - (first + 1)) (first + 1)) period new
 unfolding withDays
 days-turn entries first end period new h = rw (more-days first end h)
 

@@ -1,6 +1,6 @@
 -- Days and periods: those that an entry has, and those that a written day stands for.
 use Prim.Native.Nat.{ℕ}
-use mathlib.Core.Bool.{Bool, true, false, cond, not, _||_}
+use mathlib.Core.Bool.{Bool, true, false, cond, not, _&&_, _||_}
 use mathlib.Core.List.{List, [], _∷_}
 use lib.Dec.{eqb}
 use lib.ListN.{getD}
@@ -12,6 +12,10 @@ isDay day = between 1 7 day
 
 abbrev pub isPeriod : ℕ → Bool
 isPeriod period = between 1 4 period
+
+-- whether a day and a period have an entry
+abbrev pub hasEntry : ℕ → ℕ → Bool
+hasEntry day period = isDay day && isPeriod period
 
 -- the days that a written day stands for: 0 is every day, 8 Monday to Friday, 9 Saturday and Sunday
 abbrev pub daysOf : ℕ → List ℕ

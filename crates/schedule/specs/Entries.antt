@@ -1,11 +1,12 @@
 -- The entries of the schedule: one for each day and period.
 use Prim.Native.Nat.{ℕ, _+_, _*_, _-_}
-use mathlib.Core.Bool.{Bool, true, _&&_, _||_}
+use mathlib.Core.Bool.{Bool, true, cond, _&&_, _||_}
 use mathlib.Core.List.{List, [], _∷_}
 use lib.Dec.{eqb, leb}
 use lib.ListN.{getD, set, replicate}
 use Rattle.octets.specs.Octets.{between}
 use Rattle.store.specs.declared.WholeDegrees.{WholeDegrees}
+use Rattle.schedule.specs.Days.{hasEntry}
 use Rattle.schedule.specs.declared.Entry.{Entry}
 use Rattle.schedule.specs.declared.Schedule.{Schedule}
 
@@ -38,13 +39,18 @@ entryCount = 28
 abbrev pub placeOf : ℕ → ℕ → ℕ
 placeOf day period = 4 * day + period - 5
 
+-- the entry of a day and a period; the lowest values for a day or a period that does not exist
 abbrev pub entryAt : Schedule → ℕ → ℕ → Entry
-entryAt schedule day period = getD (schedule .entries) (placeOf day period) lowest
+entryAt schedule day period = cond (hasEntry day period) (getD (schedule .entries) (placeOf day period) lowest) lowest
 
--- the entries with another one for a period of each of these days
+-- the entries with another one for a day and a period, if these exist
+abbrev pub withEntry : List Entry → ℕ → ℕ → Entry → List Entry
+withEntry entries day period new = cond (hasEntry day period) (set entries (placeOf day period) new) entries
+
+-- the same for a period of each of these days
 unfoldable pub withDays : List Entry → List ℕ → ℕ → Entry → List Entry
 withDays entries [] period new = entries
-withDays entries (day ∷ days) period new = withDays (set entries (placeOf day period) new) days period new
+withDays entries (day ∷ days) period new = withDays (withEntry entries day period new) days period new
 
 -- as set-up leaves it
 abbrev pub start : Schedule

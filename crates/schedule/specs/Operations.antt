@@ -4,7 +4,7 @@ use mathlib.Core.Bool.{Bool, cond, _&&_}
 use mathlib.Core.List.{List, _∷_}
 use lib.Dec.{eqb}
 use lib.ListN.{length, getD}
-use Rattle.schedule.specs.Days.{isDay, isPeriod, daysOf, isWritable, firstDay}
+use Rattle.schedule.specs.Days.{isPeriod, hasEntry, daysOf, isWritable, firstDay}
 use Rattle.schedule.specs.Entries.{entry, degrees, legal, bytesOf, entryAt, withDays}
 use Rattle.schedule.specs.declared.Answer.{Answer}
 use Rattle.schedule.specs.declared.Answer.the-variants as answer
@@ -27,7 +27,7 @@ entryIn value = entry (getD value 2 0) (degrees (getD value 3 0)) (getD value 4 
 
 -- a value that reads an entry, and one that writes entries; their fields are not looked at
 abbrev pub reads : List ℕ → Bool
-reads value = eqb (length value) 2 && isDay (dayIn value) && isPeriod (periodIn value)
+reads value = eqb (length value) 2 && hasEntry (dayIn value) (periodIn value)
 
 abbrev pub writes : List ℕ → Bool
 writes value = eqb (length value) 6 && isWritable (dayIn value) && isPeriod (periodIn value)

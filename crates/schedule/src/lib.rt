@@ -1,10 +1,10 @@
 // The weekly schedule, parameter 0x0077: an entry for each day and period, and what reading and writing make of them.
 use store::WholeDegrees;
-ghost use Prim.Native.Nat.{_-_};
+ghost use Prim.Native.Nat.{_-_, _<_};
+ghost use mathlib.Core.Bool.{true};
 ghost use mathlib.Core.Path.{_≡_};
-ghost use lib.ListN.{set};
-ghost use Rattle.schedule.specs.Days.{isDay, isPeriod};
-ghost use Rattle.schedule.specs.Entries.{isTemperature, legal, lowest as lowestEntry, placeOf, entryAt, withDays};
+ghost use Rattle.schedule.specs.Days.{isDay, isPeriod, hasEntry};
+ghost use Rattle.schedule.specs.Entries.{isTemperature, legal, lowest as lowestEntry, entryCount, placeOf, entryAt, withEntry, withDays};
 ghost use Rattle.schedule.specs.Entries.{start as startOf, sound as soundOf};
 ghost use Rattle.schedule.specs.Operations.{entryIn, askedBy, addressedBy, answered, reportOf, written};
 ghost use Rattle.schedule.specs.Spans.{spanOf, spanIn, daysFrom};
@@ -66,14 +66,18 @@ fn is_period(period: u8) -> bool
     octets::is_between(1, 4, period)
 }
 
+// Whether a day and a period have an entry.
+fn has_entry(day: u8, period: u8) -> bool
+    ensures { λ r. ⌜ r ≡ hasEntry day period ⌝ }
+{
+    is_day(day) && is_period(period)
+}
+
 fn is_temperature(temperature: WholeDegrees) -> bool
     ensures { λ r. ⌜ r ≡ isTemperature temperature ⌝ }
 {
     let degrees = temperature.degrees;
-    if degrees == 0 {
-        return true;
-    }
-    octets::is_between(15, 30, degrees)
+    degrees == 0 || octets::is_between(15, 30, degrees)
 }
 
 fn is_legal(entry: Entry) -> bool
@@ -120,13 +124,10 @@ fn entry_in(value: &[u8]) -> Entry
 
 // Where the entry of a day and a period stands.
 fn place_of(day: u8, period: u8) -> usize
-    ensures { λ r. ⌜ r ≡ placeOf day period ⌝ }
+    requires { ⌜ hasEntry day period ≡ true ⌝ }
+    ensures { λ r. ⌜ (r ≡ placeOf day period) × (r < entryCount) ⌝ }
 {
-    let number = 4 * octets::wide(day) + octets::wide(period);
-    if number < 5 {
-        return 0;
-    }
-    number - 5
+    4 * octets::wide(day) + octets::wide(period) - 5
 }
 
 fn lowest() -> Entry
@@ -143,21 +144,23 @@ fn lowest() -> Entry
 fn entry_at(schedule: Schedule, day: u8, period: u8) -> Entry
     ensures { λ r. ⌜ r ≡ entryAt schedule day period ⌝ }
 {
+    if !has_entry(day, period) {
+        return lowest();
+    }
     let entries = schedule.entries;
     let place = place_of(day, period);
-    if place < ENTRIES {
-        return entries[place];
-    }
-    lowest()
+    entries[place]
 }
 
-fn with_entry(entries: [Entry; 28], place: usize, new: Entry) -> [Entry; 28]
-    ensures { λ r. ⌜ r ≡ set entries place new ⌝ }
+fn with_entry(entries: [Entry; 28], day: u8, period: u8, new: Entry) -> [Entry; 28]
+    ensures { λ r. ⌜ r ≡ withEntry entries day period new ⌝ }
 {
-    let mut all = entries;
-    if place < ENTRIES {
-        all[place] = new;
+    if !has_entry(day, period) {
+        return entries;
     }
+    let mut all = entries;
+    let place = place_of(day, period);
+    all[place] = new;
     all
 }
 
@@ -168,7 +171,7 @@ fn with_days(entries: [Entry; 28], first: u8, end: u8, period: u8, new: Entry) -
     let mut all = entries;
     let mut day = first;
     while day < end {
-        let next = with_entry(all, place_of(day, period), new);
+        let next = with_entry(all, day, period, new);
         all = next;
         day += 1;
     }
@@ -184,13 +187,10 @@ fn asked(value: &[u8]) -> Answer
     }
     let day = value[0];
     let period = value[1];
-    if !is_day(day) {
-        return Answer::Unknown;
+    if has_entry(day, period) {
+        return Answer::Entry { day, period };
     }
-    if !is_period(period) {
-        return Answer::Unknown;
-    }
-    Answer::Entry { day, period }
+    Answer::Unknown
 }
 
 // 03: the entry of the first day written, just after the write.
@@ -218,7 +218,7 @@ pub fn answered_with(function: u8, value: &[u8]) -> Answer
     }
 }
 
-// The value reported for the entry of a day and a period.
+// The value reported for the entry of a day and a period; for a day or a period that does not exist, the lowest values.
 pub fn report(schedule: Schedule, day: u8, period: u8) -> [u8; 6]
     ensures { λ r. ⌜ r ≡ reportOf schedule day period ⌝ }
 {

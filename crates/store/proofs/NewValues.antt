@@ -20,7 +20,8 @@ use Rattle.store.specs.Layout.{sizeOf, isText, filled, toRoom, fromRoom,
 use Rattle.store.specs.Columns.{kindOf}
 use Rattle.store.specs.Operations.{inverts, inverse, neighbour, measurable, accepted}
 use Rattle.store.specs.Laws.{Operation, Write, Raise, Lower, Measure, newValue}
-use Rattle.store.proofs.Bools.{both, either, not-both, no-value, tested}
+use Rattle.octets.proofs.Booleans.{both-true}
+use Rattle.store.proofs.Bools.{either, not-both, no-value, tested}
 use Rattle.store.proofs.SetColumns.{kind-free}
 use Rattle.store.proofs.Searches.{range-most, least-above, greatest-below}
 use Rattle.store.proofs.Tables.{each-row}
@@ -36,7 +37,7 @@ shortestOf Calendar = 4
 
 exact : (n size : ℕ) (rest : Bool) → (eqb n size && rest) ≡ true → (size ≤ n) × (n ≤ size)
 exact n size rest e =
-    let same : n ≡ size = eqb-true n size (both (eqb n size) rest e .0) in
+    let same : n ≡ size = eqb-true n size (both-true (eqb n size) rest e .0) in
     (omega arith, omega arith)
 
 pub member-length : (set : Set) (v : List ℕ) → member set v ≡ true → (shortestOf set ≤ length v) × (length v ≤ sizeOf set)
@@ -44,7 +45,7 @@ unfolding shortestOf
 member-length Switch v e = exact (length v) 1 (leb (getD v 0 0) 1) e
 member-length (Number size r) v e = exact (length v) size (inRange r (numberOf v)) e
 member-length (Text shortest longest) v e =
-    let bounds = both (leb shortest (length v)) (leb (length v) longest) (both (between shortest longest (length v)) (printable v) e .0) in
+    let bounds = both-true (leb shortest (length v)) (leb (length v) longest) (both-true (between shortest longest (length v)) (printable v) e .0) in
     (leb-true shortest (length v) (bounds .0), leb-true (length v) longest (bounds .1))
 member-length (Free size) v e = let same : length v ≡ size = eqb-true (length v) size e in (omega arith, omega arith)
 member-length Clock v e = exact (length v) 3 (isClock v) e
@@ -123,10 +124,10 @@ number-back : (size x : ℕ) (r : Range) → numbered (Number size r) ≡ true �
 unfolding numbered
 number-back size x r e h =
     ⊎-elim
-    (λ p. let q = both (eqb size 1) (ltb (greatest r) 256) p in
+    (λ p. let q = both-true (eqb size 1) (ltb (greatest r) 256) p in
     let small : x < 256 = omega (arith, ltb-true (greatest r) 256 (q .1)) in
     subst (λ (k : ℕ). (length (bytesOf k x) ≡ k) × (numberOf (bytesOf k x) ≡ x)) (sym (eqb-true size 1 (q .0))) (refl, omega arith))
-    (λ p. let q = both (eqb size 2) (ltb (greatest r) 65536) p in
+    (λ p. let q = both-true (eqb size 2) (ltb (greatest r) 65536) p in
     let small : x < 65536 = omega (arith, ltb-true (greatest r) 65536 (q .1)) in
     subst (λ (k : ℕ). (length (bytesOf k x) ≡ k) × (numberOf (bytesOf k x) ≡ x)) (sym (eqb-true size 2 (q .0))) (refl, omega arith))
     (either (eqb size 1 && ltb (greatest r) 256) (eqb size 2 && ltb (greatest r) 65536) e)
@@ -190,7 +191,7 @@ measure-member : (n : ℕ) (v w : List ℕ) (a b : Bool) → measurable n ≡ a 
 measure-member n v w true true p q h =
     let same : v ≡ w = cc in
     let unwritten : allows n 2 ≡ false =
-    not-true (allows n 2) (both (known n) (not (allows n 2)) (both (known n && not (allows n 2)) (not (isIdentity n)) p .0) .1) in
+    not-true (allows n 2) (both-true (known n) (not (allows n 2)) (both-true (known n && not (allows n 2)) (not (isIdentity n)) p .0) .1) in
     ap (member (rowOf n .set)) (sym same) ∙ ap (λ (s : Set). member s v) (sym (free-row n unwritten)) ∙ q
 measure-member n v w true false p q h = absurd (no-value w h)
 measure-member n v w false b p q h = absurd (no-value w h)

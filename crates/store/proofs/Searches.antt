@@ -11,7 +11,8 @@ use Rattle.octets.specs.Octets.{between}
 use Rattle.store.specs.declared.Range.{Range}
 use Rattle.store.specs.Sets.{inRange, greatest, leastAbove, greatestBelow, firstAfter, firstBefore}
 use Rattle.store.specs.Laws.{Least, Greatest}
-use Rattle.store.proofs.Bools.{both, either, not-both, no-value}
+use Rattle.octets.proofs.Booleans.{both-true}
+use Rattle.store.proofs.Bools.{either, not-both, no-value}
 use Rattle.store.proofs.Tables.{in-or-past}
 
 -- no number of a range exceeds its greatest
@@ -20,7 +21,7 @@ range-most r x e =
     let steps = eqb ((x - r .low) % r .step) 0 in
     ⊎-elim
     (λ h. bound (omega (arith, eqb-true x (r .extra) h)))
-    (λ h. high (leb-true x (r .high) (both (leb (r .low) x) (leb x (r .high)) (both (between (r .low) (r .high) x) steps h .0) .1)))
+    (λ h. high (leb-true x (r .high) (both-true (leb (r .low) x) (leb x (r .high)) (both-true (between (r .low) (r .high) x) steps h .0) .1)))
     (either (eqb x (r .extra)) (between (r .low) (r .high) x && steps) e)
   where
     bound : x ≤ r .extra → x ≤ greatest r

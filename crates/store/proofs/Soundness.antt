@@ -16,7 +16,8 @@ use Rattle.store.specs.Layout.{rowCount, longest, fromRoom, valueOf, wit
 use Rattle.store.specs.Operations.{legal}
 use Rattle.store.specs.Sound.{sound, soundRows}
 use Rattle.store.specs.Laws.{Sized}
-use Rattle.store.proofs.Bools.{both, either, not-both, tested}
+use Rattle.octets.proofs.Booleans.{both-true}
+use Rattle.store.proofs.Bools.{either, not-both, tested}
 use Rattle.store.proofs.Tables.{rows-length, each-row, size-most, found-or-not}
 use Rattle.store.proofs.Frames.{own-room, other-room}
 use Rattle.store.proofs.NewValues.{shortestOf, member-length, read-room}
@@ -28,8 +29,8 @@ Holds s l k = legal s (getD l k noRow .number) (valueOf s (getD l k noRow .numbe
 each-holds : (s : Store) (l : List Row) → soundRows s l ≡ true → (k : ℕ) → k < length l → Holds s l k
 unfolding soundRows
 each-holds s [] e k h = absurd (not-suc-le-zero h)
-each-holds s (r ∷ rs) e zero h = both (legal s (r .number) (valueOf s (r .number))) (soundRows s rs) e .0
-each-holds s (r ∷ rs) e (suc k) h = each-holds s rs (both (legal s (r .number) (valueOf s (r .number))) (soundRows s rs) e .1) k (le-of-suc-le-suc h)
+each-holds s (r ∷ rs) e zero h = both-true (legal s (r .number) (valueOf s (r .number))) (soundRows s rs) e .0
+each-holds s (r ∷ rs) e (suc k) h = each-holds s rs (both-true (legal s (r .number) (valueOf s (r .number))) (soundRows s rs) e .1) k (le-of-suc-le-suc h)
 
 all-hold : (s : Store) (l : List Row) → ((k : ℕ) → k < length l → Holds s l k) → soundRows s l ≡ true
 unfolding soundRows

@@ -23,17 +23,20 @@ in-or-past zero (suc n) = inl (omega arith)
 in-or-past (suc k) (suc n) = ⊎-elim (λ h. inl (omega arith)) (λ h. inr (omega arith)) (in-or-past k n)
 
 -- a column's entry is the property of the row at that index
-in-column : (f : Row → ℕ) (l : List Row) (k : ℕ) → k < length l → getD (map f l) k 0 ≡ f (getD l k noRow)
-in-column f [] k h = absurd (not-suc-le-zero h)
-in-column f (r ∷ rs) zero h = refl
-in-column f (r ∷ rs) (suc k) h = in-column f rs k (le-of-suc-le-suc h)
+in-column : {A : Type 0} (d : A) (f : Row → A) (l : List Row) (k : ℕ) → k < length l → getD (map f l) k d ≡ f (getD l k noRow)
+in-column d f [] k h = absurd (not-suc-le-zero h)
+in-column d f (r ∷ rs) zero h = refl
+in-column d f (r ∷ rs) (suc k) h = in-column d f rs k (le-of-suc-le-suc h)
 
 pub rows-length : length rows ≡ rowCount
 unfolding rows
 rows-length = refl
 
+pub column-or : {A : Type 0} (d : A) (f : Row → A) (k : ℕ) → k < rowCount → getD (map f rows) k d ≡ f (rowAt k)
+column-or d f k h = in-column d f rows k (rw rows-length h)
+
 pub column : (f : Row → ℕ) (k : ℕ) → k < rowCount → getD (map f rows) k 0 ≡ f (rowAt k)
-column f k h = in-column f rows k (rw rows-length h)
+column f k h = column-or 0 f k h
 
 -- past the last row there is none
 pub no-row : (k : ℕ) → rowCount ≤ k → noRow ≡ rowAt k

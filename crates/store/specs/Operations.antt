@@ -108,5 +108,5 @@ abbrev pub affected : ℕ → ℕ → Bool
 affected n other = eqb n other
 
 -- what a command is answered with: the value after it, the mark of an unknown parameter, or nothing
-abbrev pub answer : ℕ → ℕ → List ℕ → Answer
-answer function n value = cond (eqb function 2) Silence (cond (known n) Value Unknown)
+abbrev pub answer : ℕ → ℕ → Answer
+answer function n = cond (eqb function 2) Silence (cond (known n) Value Unknown)

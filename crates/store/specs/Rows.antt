@@ -1,9 +1,11 @@
--- The rows: for each parameter its number, the functions it allows and the set of its values.
+-- The rows: for each parameter its number, the functions it allows, the set of its values and what they are measured in.
 use Prim.Native.Nat.{ℕ, suc}
 use mathlib.Core.Bool.{Bool, cond, _||_}
 use mathlib.Core.List.{List, [], _∷_, map}
 use lib.Dec.{eqb, leb}
 use lib.ListN.{getD}
+use Rattle.store.specs.declared.Quantity.{Quantity}
+use Rattle.store.specs.declared.Quantity.the-variants.{Plain, Tenths, WholeDegrees}
 use Rattle.store.specs.declared.Range.{Range}
 
 -- the values that a row may hold
@@ -38,6 +40,7 @@ pub record Row : Type 0 where
   pub number : ℕ
   pub functions : ℕ
   pub set : Set
+  pub quantity : Quantity
 
 abbrev pub readOnly : ℕ
 readOnly = 1
@@ -48,8 +51,12 @@ three = 3
 abbrev pub allFive : ℕ
 allFive = 5
 
+abbrev pub rowIn : Quantity → ℕ → ℕ → Set → Row
+rowIn quantity number functions set = record { number = number; functions = functions; set = set; quantity = quantity }
+
+-- a row that is no temperature
 abbrev pub row : ℕ → ℕ → Set → Row
-row number functions set = record { number = number; functions = functions; set = set }
+row number functions set = rowIn Plain number functions set
 
 unfoldable pub rows : List Row
 rows =
@@ -62,16 +69,16 @@ rows =
     row 0x0009 allFive (range 0 59) ∷  -- timer setpoint, minutes
     row 0x000A allFive (range 0 23) ∷  -- timer setpoint, hours
     row 0x000B readOnly (Free 3) ∷  -- timer countdown
-    row 0x000D allFive (rangeOr 0 15 30) ∷  -- room temperature setpoint in timer mode, whole degrees
+    rowIn WholeDegrees 0x000D allFive (rangeOr 0 15 30) ∷  -- room temperature setpoint in timer mode
     row 0x0014 three Switch ∷  -- control with a boost switch
     row 0x0015 three Switch ∷  -- control by a fire alarm sensor
-    row 0x0018 allFive (range 15 30) ∷  -- room temperature setpoint in normal mode, whole degrees
+    rowIn WholeDegrees 0x0018 allFive (range 15 30) ∷  -- room temperature setpoint in normal mode
     row 0x001D allFive (range 0 2) ∷  -- sensor that controls the room temperature
-    row 0x001E readOnly (Free 2) ∷  -- temperature that controls the room temperature, tenths
-    row 0x001F readOnly (Free 2) ∷  -- intake air temperature, tenths
-    row 0x0020 readOnly (Free 2) ∷  -- supply air temperature, tenths
-    row 0x0021 readOnly (Free 2) ∷  -- extract air temperature, tenths
-    row 0x0022 readOnly (Free 2) ∷  -- exhaust air temperature, tenths
+    rowIn Tenths 0x001E readOnly (Free 2) ∷  -- temperature that controls the room temperature
+    rowIn Tenths 0x001F readOnly (Free 2) ∷  -- intake air temperature
+    rowIn Tenths 0x0020 readOnly (Free 2) ∷  -- supply air temperature
+    rowIn Tenths 0x0021 readOnly (Free 2) ∷  -- extract air temperature
+    rowIn Tenths 0x0022 readOnly (Free 2) ∷  -- exhaust air temperature
     row 0x0032 readOnly (Free 1) ∷  -- boost switch status
     row 0x0033 readOnly (Free 1) ∷  -- fire alarm sensor status
     row 0x0036 allFive (range 0 100) ∷  -- minimum fan speed
@@ -95,12 +102,12 @@ rows =
     row 0x0066 allFive (range 0 60) ∷  -- boost turn-off delay, minutes
     row 0x0067 allFive (range 0 15) ∷  -- boost turn-on delay, minutes
     row 0x0068 three Switch ∷  -- temperature control in normal mode
-    row 0x006A readOnly (Free 2) ∷  -- TE5 temperature, tenths
+    rowIn Tenths 0x006A readOnly (Free 2) ∷  -- TE5 temperature
     row 0x006F three Clock ∷  -- clock
     row 0x0070 three Calendar ∷  -- calendar
     row 0x0072 three Switch ∷  -- weekly schedule mode
     row 0x0073 readOnly (Free 1) ∷  -- weekly schedule speed
-    row 0x0074 readOnly (Free 1) ∷  -- weekly schedule temperature, whole degrees
+    rowIn WholeDegrees 0x0074 readOnly (Free 1) ∷  -- weekly schedule temperature
     row 0x007C readOnly (Free 16) ∷  -- ID, reported to a search
     row 0x0086 readOnly (Free 6) ∷  -- firmware version and date
     row 0x0088 readOnly (Free 1) ∷  -- filter condition

@@ -3,6 +3,7 @@ ghost use mathlib.Core.Path.{_≡_};
 ghost use Rattle.store.specs.Rows.{rowAt, indexOf, allows as allowsOf};
 ghost use Rattle.store.specs.Layout.{setAt, placeAt, sizeOf};
 ghost use Rattle.store.specs.Columns.{kindOf, rangeOf};
+use crate::Quantity;
 use crate::Range;
 
 pub const ROWS: usize = 72;
@@ -241,6 +242,81 @@ const KIND: [u8; 72] = [
     1,
     1,
     1,
+];
+
+const QUANTITY: [Quantity; 72] = [
+    Quantity::Plain,
+    Quantity::Plain,
+    Quantity::Plain,
+    Quantity::Plain,
+    Quantity::Plain,
+    Quantity::Plain,
+    Quantity::Plain,
+    Quantity::Plain,
+    Quantity::Plain,
+    Quantity::WholeDegrees,
+    Quantity::Plain,
+    Quantity::Plain,
+    Quantity::WholeDegrees,
+    Quantity::Plain,
+    Quantity::Tenths,
+    Quantity::Tenths,
+    Quantity::Tenths,
+    Quantity::Tenths,
+    Quantity::Tenths,
+    Quantity::Plain,
+    Quantity::Plain,
+    Quantity::Plain,
+    Quantity::Plain,
+    Quantity::Plain,
+    Quantity::Plain,
+    Quantity::Plain,
+    Quantity::Plain,
+    Quantity::Plain,
+    Quantity::Plain,
+    Quantity::Plain,
+    Quantity::Plain,
+    Quantity::Plain,
+    Quantity::Plain,
+    Quantity::Plain,
+    Quantity::Plain,
+    Quantity::Plain,
+    Quantity::Plain,
+    Quantity::Plain,
+    Quantity::Plain,
+    Quantity::Plain,
+    Quantity::Plain,
+    Quantity::Plain,
+    Quantity::Tenths,
+    Quantity::Plain,
+    Quantity::Plain,
+    Quantity::Plain,
+    Quantity::Plain,
+    Quantity::WholeDegrees,
+    Quantity::Plain,
+    Quantity::Plain,
+    Quantity::Plain,
+    Quantity::Plain,
+    Quantity::Plain,
+    Quantity::Plain,
+    Quantity::Plain,
+    Quantity::Plain,
+    Quantity::Plain,
+    Quantity::Plain,
+    Quantity::Plain,
+    Quantity::Plain,
+    Quantity::Plain,
+    Quantity::Plain,
+    Quantity::Plain,
+    Quantity::Plain,
+    Quantity::Plain,
+    Quantity::Plain,
+    Quantity::Plain,
+    Quantity::Plain,
+    Quantity::Plain,
+    Quantity::Plain,
+    Quantity::Plain,
+    Quantity::Plain,
 ];
 
 const SIZE: [usize; 72] = [
@@ -950,6 +1026,15 @@ pub fn kind_at(index: usize) -> u8
         return KIND[index];
     }
     FREE
+}
+
+pub fn quantity_at(index: usize) -> Quantity
+    ensures { λ r. ⌜ r ≡ rowAt index .quantity ⌝ }
+{
+    if index < ROWS {
+        return QUANTITY[index];
+    }
+    Quantity::Plain
 }
 
 pub fn size_at(index: usize) -> usize

@@ -1,20 +1,21 @@
 // The parameter store: what each row holds, and what reading, writing and measuring make of it.
 ghost use mathlib.Core.Bool.{cond};
 ghost use mathlib.Core.List.{[], _∷_};
+ghost use mathlib.Core.Option.{none};
 ghost use mathlib.Core.Path.{_≡_};
-ghost use Rattle.store.specs.Rows.{rowOf, isIdentity};
+ghost use Rattle.store.specs.Rows.{rowOf, allows as allowsOf, isIdentity};
 ghost use Rattle.store.specs.Sets.{leastAbove, greatestBelow};
 ghost use Rattle.store.specs.Layout.{setAt, valueIn, valueOf};
 ghost use Rattle.store.specs.Operations.{found, inverts as invertsOf, inverse as inverseOf, neighbour as neighbourOf, stored};
 ghost use Rattle.store.specs.Operations.{written, raised, lowered, measurable, measurement, Measures, answer};
 ghost use Rattle.store.specs.Start.{start as startOf};
 ghost use Rattle.store.specs.Sound.{sound as soundOf};
-ghost use Rattle.store.specs.Temperatures.{temperatureIn};
 
 mod columns;
 mod layout;
 mod sets;
 mod temperatures;
+mod tenths;
 
 use columns::allows;
 use columns::index_of;
@@ -27,9 +28,6 @@ use sets::Next;
 use sets::is_member;
 use sets::neighbour;
 use sets::number_of;
-use temperatures::is_measured;
-use temperatures::is_whole;
-use temperatures::read_measured;
 use temperatures::store_value;
 
 // A store: each row's value in its room, the rooms one behind the other.
@@ -71,35 +69,17 @@ pub struct Measured {
     pub store: Store,
 }
 
-// A measured temperature, in tenths of a degree.
-pub struct Tenths {
-    pub tenths: i16,
+// What a row's value is measured in, if it is a temperature.
+pub enum Quantity {
+    Plain,
+    Tenths,
+    WholeDegrees,
 }
 
 // A temperature setpoint.
 #[repr(C)]
 pub struct WholeDegrees {
     pub degrees: u8,
-}
-
-// Whether a temperature was stored in a row of its own kind.
-pub enum Placing {
-    Stored,
-    OtherRow,
-}
-
-pub struct Placed {
-    pub answer: Placing,
-    pub store: Store,
-}
-
-// A parameter read as a temperature.
-pub enum Temperature {
-    InTenths(Tenths),
-    InDegrees(WholeDegrees),
-    SensorMissing,
-    ShortCircuit,
-    NotTemperature,
 }
 
 // Looks a number up in the table of rows.
@@ -159,9 +139,13 @@ pub fn write(store: Store, number: u16, value: &[u8]) -> Store
     store
 }
 
-fn move_to_neighbour(store: Store, number: u16, up: bool) -> Store
-    ensures { λ r. ⌜ r ≡ stored store number (neighbourOf (cond up leastAbove greatestBelow) (rowOf number .set) (valueOf store number)) ⌝ }
+// The next value up or down, where the row allows the function.
+fn move_to_neighbour(store: Store, number: u16, function: u8, up: bool) -> Store
+    ensures { λ r. ⌜ r ≡ stored store number (cond (allowsOf number function) (neighbourOf (cond up leastAbove greatestBelow) (rowOf number .set) (valueOf store number)) none) ⌝ }
 {
+    if !allows(number, function) {
+        return store;
+    }
     let index = index_of(number);
     if kind_at(index) != columns::NUMBER {
         return store;
@@ -181,29 +165,20 @@ fn move_to_neighbour(store: Store, number: u16, up: bool) -> Store
 pub fn raise(store: Store, number: u16) -> Store
     ensures { λ r. ⌜ r ≡ raised store number ⌝ }
 {
-    if allows(number, 4) {
-        return move_to_neighbour(store, number, true);
-    }
-    store
+    move_to_neighbour(store, number, 4, true)
 }
 
 // Function 05: the greatest value below the one held.
 pub fn lower(store: Store, number: u16) -> Store
     ensures { λ r. ⌜ r ≡ lowered store number ⌝ }
 {
-    if allows(number, 5) {
-        return move_to_neighbour(store, number, false);
-    }
-    store
+    move_to_neighbour(store, number, 5, false)
 }
 
 fn is_identity(number: u16) -> bool
     ensures { λ r. ⌜ r ≡ isIdentity number ⌝ }
 {
-    if number == 0x007C {
-        return true;
-    }
-    number == 0x00B9
+    number == 0x007C || number == 0x00B9
 }
 
 fn is_measurable(number: u16) -> bool
@@ -245,16 +220,18 @@ pub fn measure(store: Store, number: u16, value: &[u8]) -> Measured
 }
 
 // What a command is answered with.
-pub fn answered_with(function: u8, number: u16, value: &[u8]) -> Answer
-    ensures { λ r. ⌜ r ≡ answer function number (now (value .entry)) ⌝ }
+pub fn answered_with(function: u8, number: u16) -> Answer
+    ensures { λ r. ⌜ r ≡ answer function number ⌝ }
 {
-    if function == 2 {
-        return Answer::Silence;
+    match function {
+        2 => Answer::Silence,
+        _ => {
+            if allows(number, 1) {
+                return Answer::Value;
+            }
+            Answer::Unknown
+        }
     }
-    if allows(number, 1) {
-        return Answer::Value;
-    }
-    Answer::Unknown
 }
 
 // The store as set-up leaves it, with the board's ID.
@@ -281,19 +258,4 @@ pub fn sound(store: Store) -> bool
         }
     }
     true
-}
-
-// The temperature that a parameter holds.
-pub fn read_temperature(bytes: &[u8], number: u16) -> Temperature
-    ensures { λ r. ⌜ r ≡ temperatureIn (now (bytes .entry)) number ⌝ }
-{
-    let value = held(bytes, number);
-    if is_measured(number) {
-        return read_measured(value);
-    }
-    if is_whole(number) {
-        let degrees = octets::byte_at(value, 0);
-        return Temperature::InDegrees(WholeDegrees { degrees });
-    }
-    Temperature::NotTemperature
 }

@@ -4,13 +4,16 @@ ghost use mathlib.Core.Path.{_≡_};
 ghost use Prim.Native.Nat.{_<_};
 ghost use lib.ListN.{getD};
 ghost use Rattle.octets.specs.Octets.{between};
-ghost use Rattle.store.specs.Rows.{Switch, Number, Text, Clock, Calendar};
-ghost use Rattle.store.specs.Layout.{setAt};
+ghost use Rattle.store.specs.Rows.{Switch, Number, Text, Clock, Calendar, rowAt};
+ghost use Rattle.store.specs.Layout.{sizeOf, setAt};
 ghost use Rattle.store.specs.Sets.{numberOf, inRange, printable, threeFields, member, greatest as greatestOf, leastAbove, greatestBelow};
 ghost use Rattle.store.specs.Columns.{rangeOf};
 ghost use Rattle.store.specs.Next.{nextOf};
+use crate::Quantity;
 use crate::Range;
+use crate::WholeDegrees;
 use crate::columns::kind_at;
+use crate::columns::quantity_at;
 use crate::columns::range_at;
 use crate::columns::size_at;
 
@@ -88,10 +91,7 @@ fn three_fields(value: &[u8], low: u8, first: u8, second: u8, third: u8) -> bool
 fn is_clock(value: &[u8]) -> bool
     ensures { λ r. ⌜ r ≡ member Clock (now (value .entry)) ⌝ }
 {
-    if value.len() != 3 {
-        return false;
-    }
-    three_fields(value, 0, 59, 59, 23)
+    value.len() == 3 && three_fields(value, 0, 59, 59, 23)
 }
 
 fn is_calendar(value: &[u8]) -> bool
@@ -109,20 +109,29 @@ fn is_calendar(value: &[u8]) -> bool
 fn is_switch(value: &[u8]) -> bool
     ensures { λ r. ⌜ r ≡ member Switch (now (value .entry)) ⌝ }
 {
-    if value.len() != 1 {
-        return false;
-    }
-    value[0] <= 1
+    value.len() == 1 && value[0] <= 1
 }
 
-fn is_number(size: usize, range: Range, value: &[u8]) -> bool
-    requires { ⌜ 0 < range .step ⌝ }
-    ensures { λ r. ⌜ r ≡ member (Number size range) (now (value .entry)) ⌝ }
+// Whether the row of a setpoint may hold a temperature.
+fn takes(index: usize, temperature: WholeDegrees) -> bool
+    requires { ⌜ rowAt index .quantity ≡ Quantity.WholeDegrees ⌝ }
+    ensures { λ r. ⌜ r ≡ inRange (rangeOf (setAt index)) (temperature .degrees) ⌝ }
 {
-    if value.len() != size {
+    in_range(range_at(index), wide(temperature.degrees))
+}
+
+fn is_number(index: usize, value: &[u8]) -> bool
+    ensures { λ r. ⌜ r ≡ member (Number (sizeOf (setAt index)) (rangeOf (setAt index))) (now (value .entry)) ⌝ }
+{
+    if value.len() != size_at(index) {
         return false;
     }
-    in_range(range, number_of(value))
+    let quantity = quantity_at(index);
+    let Quantity::WholeDegrees = quantity else {
+        return in_range(range_at(index), number_of(value));
+    };
+    let degrees = octets::byte_at(value, 0);
+    takes(index, WholeDegrees { degrees })
 }
 
 fn is_text(shortest: u16, longest: usize, value: &[u8]) -> bool
@@ -146,7 +155,7 @@ pub fn is_member(index: usize, value: &[u8]) -> bool
         return is_switch(value);
     }
     if kind == crate::columns::NUMBER {
-        return is_number(size_at(index), range_at(index), value);
+        return is_number(index, value);
     }
     if kind == crate::columns::TEXT {
         return is_text(range_at(index).low, size_at(index), value);

@@ -18,9 +18,6 @@ abbrev μ-loop : tie.MeasureT-loop
 loop-holds : tie.Need-loop-holds Inv-loop μ-loop
 loop-holds c = refl
 
-place-of-requires : tie.Need-place-of-requires Inv-loop μ-loop
-place-of-requires c κs = search needs
-
 with-entry-requires : tie.Need-with-entry-requires Inv-loop μ-loop
 with-entry-requires c κs = search needs
 
@@ -32,11 +29,11 @@ loop-less c = omega arith
 
 loop-again : tie.Need-loop-again Inv-loop μ-loop
 loop-again c =
-    let at = c .before .before .before in
+    let at = c .before .before in
     let args = at .before .args in
     at .loop .inv
     ∙ days-turn (at .loop .all) (at .loop .day) (args .end) (args .period) (args .new) (omega arith)
-    ∙ rw (c .with-entry .ensures, c .before .place-of .ensures)
+    ∙ rw (c .with-entry .ensures)
 
 returns : tie.Need-returns Inv-loop μ-loop
 returns c =
@@ -50,7 +47,6 @@ with-days-spec =
     Inv-loop
     μ-loop
     loop-holds
-    place-of-requires
     with-entry-requires
     add-day
     loop-less

@@ -1,5 +1,4 @@
 -- `sets::greatest_below` meets its contract. The invariant: what lies below the number reached decides.
-use Prim.Native.Nat.{_-_}
 use native.Mathlib.Omega.{arith}
 use mathlib.Core.Bool.{true, false}
 use mathlib.Core.Path.{_≡_, refl, sym, ap, _∙_}

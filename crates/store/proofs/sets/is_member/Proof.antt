@@ -3,7 +3,6 @@ use mathlib.Core.Path.{sym, ap, _∙_}
 use borrow.Author.Needs.{needs}
 use denote.Ref.{now}
 use Rattle.store.proofs.SetColumns.{kind-switch, kind-number, kind-text, kind-free, kind-clock, kind-calendar}
-use Rattle.store.proofs.Tables.{step-pos}
 use Rattle.store.specs.Layout.{setAt}
 use Rattle.store.specs.Rows.{Set}
 use Rattle.store.specs.Sets.{member}
@@ -22,30 +21,21 @@ returns c =
     let start = test .before .before .before .args in
     c .is-switch .ensures ∙ ap (λ (s : Set). member s (now (start .value))) (kind-switch (setAt (start .index)) (sym (test .before .kind-at .ensures) ∙ test .if1 .taken))
 
-size-at-requires : tie.Need-size-at-requires
-size-at-requires c κs = search needs
+is-number-requires : tie.Need-is-number-requires
+is-number-requires c κs = search needs
+
+returns-2 : tie.Need-returns-2
+returns-2 c =
+    let test = c .before in
+    let start = test .before .before .before .before .args in
+    c .is-number .ensures
+    ∙ ap (λ (s : Set). member s (now (start .value))) (kind-number (setAt (start .index)) (sym (test .before .before .kind-at .ensures) ∙ test .if2 .taken))
 
 range-at-requires : tie.Need-range-at-requires
 range-at-requires c κs = search needs
 
-is-number-requires : tie.Need-is-number-requires
-is-number-requires c κs =
-    let start = c .before .before .before .before .before .before .args in
-    rw (c .range-at .ensures) (step-pos (start .index))
-
-returns-2 : tie.Need-returns-2
-returns-2 c =
-    let test = c .before .before .before in
-    let start = test .before .before .before .before .args in
-    c .is-number .ensures
-    ∙ rw (c .before .range-at .ensures, c .before .before .size-at .ensures)
-    (ap (λ (s : Set). member s (now (start .value))) (kind-number (setAt (start .index)) (sym (test .before .before .kind-at .ensures) ∙ test .if2 .taken)))
-
-range-at-requires-2 : tie.Need-range-at-requires-2
-range-at-requires-2 c κs = search needs
-
-size-at-requires-2 : tie.Need-size-at-requires-2
-size-at-requires-2 c κs = search needs
+size-at-requires : tie.Need-size-at-requires
+size-at-requires c κs = search needs
 
 is-text-requires : tie.Need-is-text-requires
 is-text-requires c κs = search needs
@@ -55,17 +45,17 @@ returns-3 c =
     let test = c .before .before .before in
     let start = test .before .before .before .before .before .args in
     c .is-text .ensures
-    ∙ rw (c .before .before .range-at2 .ensures, c .before .size-at2 .ensures)
+    ∙ rw (c .before .before .range-at .ensures, c .before .size-at .ensures)
     (ap (λ (s : Set). member s (now (start .value))) (kind-text (setAt (start .index)) (sym (test .before .before .before .kind-at .ensures) ∙ test .if3 .taken)))
 
-size-at-requires-3 : tie.Need-size-at-requires-3
-size-at-requires-3 c κs = search needs
+size-at-requires-2 : tie.Need-size-at-requires-2
+size-at-requires-2 c κs = search needs
 
 returns-4 : tie.Need-returns-4
 returns-4 c =
     let test = c .before in
     let start = test .before .before .before .before .before .before .args in
-    rw (c .size-at3 .ensures)
+    rw (c .size-at2 .ensures)
     (ap (λ (s : Set). member s (now (start .value))) (kind-free (setAt (start .index)) (sym (test .before .before .before .before .kind-at .ensures) ∙ test .if4 .taken)))
 
 is-clock-requires : tie.Need-is-clock-requires
@@ -102,15 +92,13 @@ is-member-spec =
     kind-at-requires
     is-switch-requires
     returns
-    size-at-requires
-    range-at-requires
     is-number-requires
     returns-2
-    range-at-requires-2
-    size-at-requires-2
+    range-at-requires
+    size-at-requires
     is-text-requires
     returns-3
-    size-at-requires-3
+    size-at-requires-2
     returns-4
     is-clock-requires
     returns-5

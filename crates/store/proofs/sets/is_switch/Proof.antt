@@ -4,14 +4,14 @@ use borrow.Author.Tests.{eq-eqb, ne-eqb}
 use Rattle.store.proofs.sets.is_switch.Statement.{statement}
 use Rattle.store.proofs.sets.is_switch.Tie as tie
 
-returns : tie.Need-returns
-returns c = simp (ne-eqb _ _ (c .if1 .taken))
-
 shared-slice-read-result : tie.Need-shared-slice-read-result
 shared-slice-read-result c = search needs
 
+returns : tie.Need-returns
+returns c = simp (eq-eqb _ _ (c .before .if1 .taken))
+
 returns-2 : tie.Need-returns-2
-returns-2 c = simp (eq-eqb _ _ (c .before .if1 .left))
+returns-2 c = simp (ne-eqb _ _ (c .if1 .left))
 
 pub is-switch-spec : {M : Type 1} → statement M
-is-switch-spec = tie.close (tie.spec returns shared-slice-read-result returns-2)
+is-switch-spec = tie.close (tie.spec shared-slice-read-result returns returns-2)

@@ -1,7 +1,7 @@
--- `temperatures::bits_of` meets its contract.
+-- `tenths::bits_of` meets its contract.
 use Rattle.store.proofs.TwosComplement.{cast-plus, bits-plus, minus-fits, minus-cast, minus-most, minus-bits}
-use Rattle.store.proofs.temperatures.bits_of.Statement.{statement}
-use Rattle.store.proofs.temperatures.bits_of.Tie as tie
+use Rattle.store.proofs.tenths.bits_of.Statement.{statement}
+use Rattle.store.proofs.tenths.bits_of.Tie as tie
 
 cast-result : tie.Need-cast-result
 cast-result c = cast-plus (c .before .before .args .temperature .tenths) (c .before .struct-told .given .0 .1) (c .if1 .taken)
