@@ -1,55 +1,51 @@
 -- Demand 2: the statements of specs/Changes.antt hold.
 use Prim.Native.Nat.{ℕ, _-_}
-use mathlib.Core.Bool.{Bool, true, false, cond, not, _&&_, _||_}
+use mathlib.Core.Bool.{Bool, true, false, cond, not, _&&_, and-false, and-true}
 use mathlib.Core.List.{List, [], _∷_, _++_, append-assoc}
-use mathlib.Core.Option.{Option, none, some}
-use mathlib.Core.Path.{_≡_, refl, sym, ap, _∙_}
+use mathlib.Core.Option.{Option, none, some, Option·getD}
+use mathlib.Core.Path.{_≡_, refl, sym, ap, subst, _∙_}
 use borrow.Author.Tests.{eq-eqb, eqb-true, not-true, not-false}
 use lib.Dec.{leb, eqb}
-use lib.ListN.{length, drop, replicate}
+use lib.ListN.{length, replicate}
 use lib.Seq.{take-at}
 use Rattle.octets.specs.Octets.{same}
 use Rattle.octets.proofs.Booleans.{both-true}
+use Rattle.octets.proofs.Same.{same-equal}
 use Rattle.framing.specs.Identity.{allAlphanumeric, defaultId}
+use Rattle.framing.specs.Packet.{frameOf}
 use Rattle.framing.specs.Refusal.{firstRefusal}
 use Rattle.framing.proofs.Refusals.{not-refused}
 use Rattle.block.specs.Command.{Command, commandNumber, Report, held}
 use Rattle.block.specs.Encoding.{every}
-use Rattle.block.specs.Reading.{isSome}
 use Rattle.store.specs.Laws.{Operation, Write, Raise, Lower, Measure, newValue, after}
-use Rattle.store.specs.Layout.{roomOf, valueOf, setAt, fromRoom, sizeOf}
-use Rattle.store.specs.Operations.{measurable, affected}
-use Rattle.store.specs.Rows.{isIdentity, rows as table, indexIn, indexOf, known, rowOf}
+use Rattle.store.specs.Layout.{roomOf, valueOf, sizeOf}
+use Rattle.store.specs.Operations.{measurable, affected, stored as storedIn}
+use Rattle.store.specs.Rows.{isIdentity, rows as table, indexIn, allows, known, rowOf}
 use Rattle.store.specs.Laws as laws
 use Rattle.store.specs.Sound as rows
 use Rattle.store.specs.declared.Answer.the-variants.{Value, Unknown, Silence}
-use Rattle.store.specs.declared.Answer.{Answer}
 use Rattle.store.specs.declared.Store.{Store}
-use Rattle.store.proofs.Laws.{size-kept, others-kept, identity-kept, read-back, sound-kept, start-sized, start-sound, start-identity}
-use Rattle.schedule.specs.Days.{isDay, isPeriod, daysOf, contains}
+use Rattle.store.proofs.Laws.{size-kept, others-kept, identity-kept, read-back, sound-kept, held-legal, start-sized, start-sound, start-identity}
+use Rattle.schedule.specs.Days.{isDay, isPeriod, daysOf, contains, isEmpty, isWritable}
 use Rattle.schedule.specs.Entries as entries
 use Rattle.schedule.specs.Entries.{entryAt}
 use Rattle.schedule.specs.Laws.{isFor}
-use Rattle.schedule.specs.Operations.{scheduleNumber, dayIn, periodIn, entryIn, answered, stores, written, reportOf}
+use Rattle.schedule.specs.Operations.{scheduleNumber, dayIn, periodIn, entryIn, answered, stores, written}
 use Rattle.schedule.specs.declared.Answer.{Answer as Answered}
-use Rattle.schedule.specs.declared.Entry.{Entry}
 use Rattle.schedule.specs.declared.Schedule.{Schedule}
 use Rattle.schedule.proofs.Laws as schedule
-use Rattle.model.specs.Changes.{operationOf, mayChange, noneChanges, storesEntry, noneStores, SameIdentity, Sized, Legal, ValuesReported, OthersLeft, EntriesReadBack, CommandRuns, PacketsChange, MeasurementsChange, SetUpsLegal}
-use Rattle.model.specs.Commands.{isSchedule, isWrite, afterRow, afterEntry, afterCommand, rowReport, entryReport, reported, run, runReports, discoverReports}
+use Rattle.model.specs.Changes.{Asks, mayChange, noneChanges, legalFields, isForEntry, storesEntry, noneStores, SameIdentity, Sized, Legal, ValuesReported, OthersLeft, EntriesReadBack, CarriedOut, CommandRuns, PacketsChange, MeasurementsChange, SetUpsLegal}
+use Rattle.model.specs.Commands.{isSchedule, isWrite, afterEntry, afterCommand, rowReport, entryReport, reported, run, runReports, discoverReports}
 use Rattle.model.specs.Measurement.{MeasureCall, measureRefusals, measureRefusal, measuredBy, measuredBoard}
 use Rattle.model.specs.Record.{isId, micra, parametersOf, withParameters, SetUp, setUpRefusals, setUpRefusal, startBoard, unset, boardOf, setUpBoard, sound}
-use Rattle.model.specs.Step.{Call, request, isDiscovery, commandsOf, stepRefusal, step}
+use Rattle.model.specs.Step.{Call, request, isDiscovery, commandsOf, reportsOf, stepRefusal, step}
 use Rattle.model.specs.declared.Board.{Board}
 use Rattle.model.specs.declared.Parameters.{Parameters}
+use Rattle.model.proofs.RowOperations.{operationOf, operates, done, same-room, carried-out}
 use Rattle.model.proofs.Soundness.{SoundParts, sound-parts, parts-sound}
 use Rattle.model.proofs.StepRefusals.{answered-board, on-step}
 
 -- a command of a row does its operation
-abbrev done : Option Operation → Store → ℕ → Store
-done none store n = store
-done (some operation) store n = after operation store n
-
 command-done :
     (p : Parameters) (c : Command)
     → afterCommand p c
@@ -77,14 +73,14 @@ entries-written : (p : Parameters) (c : Command) → isSchedule c ≡ true → i
 unfolding afterCommand
 entries-written p c named writes = rw (named, writes)
 
+either-way : {A : Type 0} (b : Bool) (x : A) → cond b x x ≡ x
+either-way true x = refl
+either-way false x = refl
+
 -- a read leaves the parameters as they were
 pub read-keeps : (p : Parameters) (c : Command) → c .function ≡ 1 → afterCommand p c ≡ p
 unfolding afterCommand
-read-keeps p c e = rw e (by-number (isSchedule c))
-  where
-    by-number : (is-schedule : Bool) → cond is-schedule p p ≡ p
-    by-number true = refl
-    by-number false = refl
+read-keeps p c e = rw e (either-way (isSchedule c) p)
 
 run-join : (before behind : List Command) (p : Parameters) → run p (before ++ behind) ≡ run (run p before) behind
 unfolding run
@@ -136,9 +132,6 @@ values-reported p c =
 same-identity : (board : Board) (p : Parameters) → SameIdentity board (withParameters board p)
 same-identity board p = record { id = refl; password = refl; size = refl; mode = refl }
 
-same-room : (left right : Store) (n : ℕ) → roomOf left n ≡ roomOf right n → valueOf left n ≡ valueOf right n
-same-room left right n e = ap (fromRoom (setAt (indexOf n))) e
-
 -- what a row's operation and a write of the schedule keep, a command keeps
 pub on-command :
     (P : Parameters → Type 0) (p : Parameters) (c : Command) → P p
@@ -188,9 +181,32 @@ run-others n cs p h sized =
         on-command (λ (r : Parameters). roomOf (r .store) n ≡ roomOf (p .store) n) q c so-far
         (λ operation e.
         let other : affected (commandNumber c) n ≡ false =
-        ap (λ (o : Option Operation). isSome o && affected (commandNumber c) n) (sym e) ∙ not-true (mayChange n c) unaffected in
+        ap (λ (b : Bool). b && affected (commandNumber c) n) (sym (operates (c .function) (c .value) operation e)) ∙ not-true (mayChange n c) unaffected in
         others-kept operation (q .store) (commandNumber c) n (size .store) other ∙ so-far)
         (λ named writes. so-far)
+
+-- days that have one are some
+has-day : (days : List ℕ) (day : ℕ) → contains days day ≡ true → not (isEmpty days) ≡ true
+unfolding contains
+has-day [] day h = cc
+has-day (first ∷ rest) day h = refl
+
+-- a day among those written may be written, and an entry's period is one
+for-entry :
+    (six writable is-period legal on-day at-period : Bool) → (on-day ≡ true → writable ≡ true) → (at-period ≡ true → is-period ≡ true)
+    → (six && writable && is-period && legal && (on-day && at-period)) ≡ (six && on-day && at-period && legal)
+for-entry false writable is-period legal on-day at-period w p = refl
+for-entry true writable is-period legal false at-period w p = and-false (writable && is-period && legal)
+for-entry true writable is-period legal true false w p = and-false (writable && is-period && legal)
+for-entry true writable is-period legal true true w p = rw (w refl, p refl, and-true legal)
+
+-- the values that store this entry
+exactly :
+    (day period : ℕ) (value : List ℕ) → isPeriod period ≡ true → (stores value && isFor value day period) ≡ isForEntry day period value
+exactly day period value is-period =
+    for-entry (eqb (length value) 6) (isWritable (dayIn value)) (isPeriod (periodIn value)) (legalFields value)
+    (contains (daysOf (dayIn value)) day) (eqb (periodIn value) period)
+    (has-day (daysOf (dayIn value)) day) (λ e. ap isPeriod (eqb-true (periodIn value) period e) ∙ is-period)
 
 module _ (day period : ℕ) (is-day : isDay day ≡ true) (is-period : isPeriod period ≡ true) where
   run-entries :
@@ -208,7 +224,7 @@ module _ (day period : ℕ) (is-day : isDay day ≡ true) (is-period : isPeriod 
           on-command (λ (r : Parameters). entryAt (r .schedule) day period ≡ entryAt (p .schedule) day period) q c so-far (λ operation e. so-far)
           (λ named writes.
           let other : (stores (c .value) && isFor (c .value) day period) ≡ false =
-          (λ i. sym named i && sym writes i && (stores (c .value) && isFor (c .value) day period)) ∙ not-true (storesEntry day period c) unaffected in
+          (λ i. sym named i && sym writes i && exactly day period (c .value) is-period i) ∙ not-true (storesEntry day period c) unaffected in
           schedule.write-exact (q .schedule) (c .value) day period (size .schedule) is-day is-period ∙ rw other so-far)
 
   entry-stored :
@@ -218,16 +234,21 @@ module _ (day period : ℕ) (is-day : isDay day ≡ true) (is-period : isPeriod 
       let named = both-true (isSchedule c) (isWrite c) (both .0) in
       ap (λ (s : Schedule). entryAt s day period) (entries-written p c (named .0) (named .1))
       ∙ schedule.write-exact (p .schedule) (c .value) day period (sized .schedule) is-day is-period
-      ∙ rw (both .1)
+      ∙ rw (exactly day period (c .value) is-period ∙ both .1)
 
 pub entries-read-back : EntriesReadBack
 unfolding run
-entries-read-back p write read day sized written-number writes kept on-day read-number reads asked =
-    let back = schedule.read-back (p .schedule) (write .value) day (sized .schedule) kept on-day in
+entries-read-back p write read day period sized is-period h read-number reads asked =
+    let both = both-true (isSchedule write && isWrite write) _ h in
+    let named = both-true (isSchedule write) (isWrite write) (both .0) in
+    let kept = both-true (stores (write .value)) (isFor (write .value) day period) (exactly day period (write .value) is-period ∙ both .1) in
+    let at = both-true (contains (daysOf (dayIn (write .value))) day) (eqb (periodIn (write .value)) period) (kept .1) in
+    let same : periodIn (write .value) ≡ period = eqb-true _ _ (at .1) in
+    let back = schedule.read-back (p .schedule) (write .value) day (sized .schedule) (kept .0) (at .0) in
     let left : run p (write ∷ read ∷ []) .schedule ≡ written (p .schedule) (write .value) =
-    ap (λ (q : Parameters). q .schedule) (read-keeps (afterCommand p write) read reads) ∙ entries-written p write written-number writes in
+    ap (λ (q : Parameters). q .schedule) (read-keeps (afterCommand p write) read reads) ∙ entries-written p write (named .0) (named .1) in
     values-reported (run p (write ∷ read ∷ [])) read .entry read-number
-    ∙ (λ i. entryReport (answered (reads i) (asked i)) (left i) read)
+    ∙ (λ i. entryReport (answered (reads i) ((asked ∙ ap (λ (x : ℕ). day ∷ x ∷ []) (sym same)) i)) (left i) read)
     ∙ ap (λ (a : Answered). entryReport a (written (p .schedule) (write .value)) read) (back .0)
     ∙ ap (λ (v : List ℕ). held (read .page) (read .low) v ∷ []) (back .1)
 
@@ -298,20 +319,31 @@ legal-with board p parts legal =
 run-sized : (cs : List Command) (p : Parameters) → Sized p → Sized (run p cs)
 run-sized cs p sized = run-keeps Sized (λ (c : Command). true) (λ q c h size so-far. sized-after q c size) cs p (every-command cs) sized sized .0
 
--- what a row's operation stores is for a row
-stored-row : (operation : Operation) (store : Store) (n : ℕ) (value : List ℕ) → newValue operation store n ≡ some value → eqb n scheduleNumber ≡ false
+-- the schedule's number has no row to operate on
+schedule-row : (operation : Operation) (store : Store) (n : ℕ) → eqb n scheduleNumber ≡ true → after operation store n ≡ store
 unfolding table indexIn
-stored-row operation store n value e = by-number (eqb n scheduleNumber) refl
+schedule-row operation store n h = ap (storedIn store n) (ap (newValue operation store) (eqb-true n scheduleNumber h) ∙ nothing operation)
   where
-    none-stored : (o : Operation) → newValue o store scheduleNumber ≡ none
-    none-stored (Write v) = refl
-    none-stored Raise = refl
-    none-stored Lower = refl
-    none-stored (Measure v) = refl
+    nothing : (o : Operation) → newValue o store scheduleNumber ≡ none
+    nothing (Write v) = refl
+    nothing Raise = refl
+    nothing Lower = refl
+    nothing (Measure v) = refl
 
-    by-number : (is-schedule : Bool) → eqb n scheduleNumber ≡ is-schedule → is-schedule ≡ false
-    by-number true h = let nothing : newValue operation store n ≡ none = ap (newValue operation store) (eqb-true n scheduleNumber h) ∙ none-stored operation in cc
-    by-number false h = refl
+row-done :
+    (p : Parameters) (c : Command) → afterCommand p c .store ≡ done (operationOf c) (p .store) (commandNumber c)
+row-done p c = ap (λ (q : Parameters). q .store) (command-done p c) ∙ by-number (isSchedule c) refl
+  where
+    untouched : isSchedule c ≡ true → (o : Option Operation) → p .store ≡ done o (p .store) (commandNumber c)
+    untouched named none = refl
+    untouched named (some operation) = sym (schedule-row operation (p .store) (commandNumber c) named)
+
+    by-number :
+        (is-schedule : Bool) → isSchedule c ≡ is-schedule
+        → cond is-schedule (parametersOf (p .store) (afterEntry (p .schedule) c)) (parametersOf (done (operationOf c) (p .store) (commandNumber c)) (p .schedule)) .store
+        ≡ done (operationOf c) (p .store) (commandNumber c)
+    by-number true named = untouched named (operationOf c)
+    by-number false named = refl
 
 module _ (p : Parameters) (before : List Command) (command : Command) (behind : List Command) (sized : Sized p) where
   sized-before : Sized (run p before)
@@ -322,22 +354,15 @@ module _ (p : Parameters) (before : List Command) (command : Command) (behind : 
   unfolding run
   run-behind = run-join before (command ∷ behind) p
 
-  held-after :
-      (operation : Operation) (value : List ℕ) → operationOf command ≡ some operation
-      → newValue operation (run p before .store) (commandNumber command) ≡ some value
-      → noneChanges (commandNumber command) behind ≡ true → valueOf (run p (before ++ command ∷ behind) .store) (commandNumber command) ≡ value
-  held-after operation value e stored h =
+  row-after :
+      noneChanges (commandNumber command) behind ≡ true
+      → CarriedOut command (commandNumber command) (run p before .store) (run p (before ++ command ∷ behind) .store)
+  row-after h =
       let n : ℕ = commandNumber command in
-      let row : isSchedule command ≡ false = stored-row operation (run p before .store) n value stored in
-      let at-command : afterCommand (run p before) command .store ≡ after operation (run p before .store) n =
-      ap (λ (q : Parameters). q .store) (command-done (run p before) command)
-      ∙ (λ i.
-      cond (row i) (parametersOf (run p before .store) (afterEntry (run p before .schedule) command))
-      (parametersOf (done (e i) (run p before .store) n) (run p before .schedule)) .store) in
-      ap (λ (q : Parameters). valueOf (q .store) n) run-behind
-      ∙ same-room _ _ n (run-others n behind (afterCommand (run p before) command) h (sized-after (run p before) command sized-before))
-      ∙ ap (λ (s : Store). valueOf s n) at-command
-      ∙ read-back operation (run p before .store) n value (sized-before .store) stored
+      carried-out command n (run p before .store) (run p (before ++ command ∷ behind) .store) (sized-before .store)
+      (ap (λ (q : Parameters). roomOf (q .store) n) run-behind
+      ∙ run-others n behind (afterCommand (run p before) command) h (sized-after (run p before) command sized-before)
+      ∙ ap (λ (s : Store). roomOf s n) (row-done (run p before) command))
 
   entry-after :
       (day period : ℕ) → isDay day ≡ true → isPeriod period ≡ true → storesEntry day period command ≡ true
@@ -347,20 +372,41 @@ module _ (p : Parameters) (before : List Command) (command : Command) (behind : 
       ∙ run-entries day period is-day is-period behind (afterCommand (run p before) command) h (sized-after (run p before) command sized-before)
       ∙ entry-stored day period is-day is-period (run p before) command sized-before stored
 
+-- the model's reading of a packet's commands
+asked : (c : Call) (cs : List Command) → Asks c cs → commandsOf (request c) ≡ cs
+asked c cs e = ap (λ (o : Option (List Command)). Option·getD o []) e
+
+no-discovery : (c : Call) → (c .board .mode ≡ 1 → frameOf (c .packet) .id ≡ defaultId → ⊥) → isDiscovery (request c) ≡ false
+no-discovery c other = by-tests (eqb (c .board .mode) 1) (same (frameOf (c .packet) .id) defaultId) refl refl
+  where
+    by-tests : (mode id : Bool) → eqb (c .board .mode) 1 ≡ mode → same (frameOf (c .packet) .id) defaultId ≡ id → (mode && id) ≡ false
+    by-tests false id e h = refl
+    by-tests true false e h = refl
+    by-tests true true e h = absurd (other (eqb-true _ 1 e) (same-equal _ _ h))
+
+-- no commands report nothing, in a discovery or not
+no-reports : (c : Call) → Asks c [] → reportsOf (request c) ≡ []
+unfolding runReports discoverReports
+no-reports c e =
+    ap (λ (cs : List Command). cond (isDiscovery (request c)) (discoverReports (c .board .id) cs) (runReports (c .board .parameters) cs)) (asked c [] e)
+    ∙ either-way (isDiscovery (request c)) []
+
 runs :
-    (c : Call) → Sized (c .board .parameters) → stepRefusal c ≡ none → isDiscovery (request c) ≡ false
+    (c : Call) → Sized (c .board .parameters) → stepRefusal c ≡ none → (c .board .mode ≡ 1 → frameOf (c .packet) .id ≡ defaultId → ⊥)
     → (before : List Command) (command : Command) (behind : List Command)
-    → commandsOf (request c) ≡ before ++ command ∷ behind → CommandRuns c before command behind
-runs c sized accepted other before command behind e =
+    → Asks c (before ++ command ∷ behind) → CommandRuns c before command behind
+runs c sized accepted no-search before command behind read =
     let p : Parameters = c .board .parameters in
+    let other : isDiscovery (request c) ≡ false = no-discovery c no-search in
+    let e : commandsOf (request c) ≡ before ++ command ∷ behind = asked c _ read in
     let left : step c .board .parameters ≡ run p (before ++ command ∷ behind) =
     ap (λ (b : Board). b .parameters)
     (answered-board c accepted
     ∙ (λ i. cond (other i) (c .board) (withParameters (c .board) (run p (e i))))) in
     record {
-      stored = λ operation value done-by stored h.
-          ap (λ (q : Parameters). valueOf (q .store) (commandNumber command)) left
-          ∙ held-after p before command behind sized operation value done-by stored h;
+      carried = λ h.
+          subst (λ (q : Parameters). CarriedOut command (commandNumber command) (run p before .store) (q .store)) (sym left)
+          (row-after p before command behind sized h);
       stored-entry = λ day period is-day is-period stored h.
           ap (λ (q : Parameters). entryAt (q .schedule) day period) left
           ∙ entry-after p before command behind sized day period is-day is-period stored h;
@@ -370,20 +416,27 @@ runs c sized accepted other before command behind e =
           ∙ reports-join before command behind p;
     }
 
+step-legal : (c : Call) → Sized (c .board .parameters) → Legal (c .board) → Legal (step c .board)
+step-legal c sized legal =
+    let parts : SoundParts (c .board) = sound-parts (c .board) (legal .is-sound) in
+    on-step Legal c legal (legal-with (c .board) _ parts (run-legal (commandsOf (request c)) (c .board .parameters) sized (parameters-of parts)))
+
 pub packets-change : PacketsChange
 packets-change c sized =
     record {
       identity = on-step (SameIdentity (c .board)) c (same-identity (c .board) (c .board .parameters)) (same-identity (c .board) _);
-      others = λ n h.
+      others = λ cs e n h.
           on-step (λ (b : Board). roomOf (b .parameters .store) n ≡ roomOf (c .board .parameters .store) n) c refl
-          (run-others n (commandsOf (request c)) (c .board .parameters) h sized);
-      entries = λ day period is-day is-period h.
+          (run-others n (commandsOf (request c)) (c .board .parameters) (ap (noneChanges n) (asked c cs e) ∙ h) sized);
+      entries = λ cs e day period is-day is-period h.
           on-step (λ (b : Board). entryAt (b .parameters .schedule) day period ≡ entryAt (c .board .parameters .schedule) day period) c refl
-          (run-entries day period is-day is-period (commandsOf (request c)) (c .board .parameters) h sized);
+          (run-entries day period is-day is-period (commandsOf (request c)) (c .board .parameters) (ap (noneStores day period) (asked c cs e) ∙ h) sized);
+      silent = no-reports c;
       runs = runs c sized;
-      legal = λ legal.
-          let parts : SoundParts (c .board) = sound-parts (c .board) (legal .is-sound) in
-          on-step Legal c legal (legal-with (c .board) _ parts (run-legal (commandsOf (request c)) (c .board .parameters) sized (parameters-of parts)));
+      legal = step-legal c sized;
+      members = λ h n row.
+          held-legal (step c .board .parameters .store) n
+          (sound-parts (step c .board) (step-legal c sized (record { is-sound = h; sized = sized }) .is-sound) .held) row;
     }
 
 on-measured :
@@ -397,10 +450,10 @@ on-measured P c unchanged changed = by-refusal (measureRefusal c)
     by-refusal (some number) = unchanged
 
 measurement-accepted :
-    (c : MeasureCall) → sound (c .board) ≡ true → measurable (c .number) ≡ true → length (c .value) ≡ sizeOf (rowOf (c .number) .set)
-    → measureRefusal c ≡ none
+    (c : MeasureCall) → sound (c .board) ≡ true → allows (c .number) 1 ≡ true → allows (c .number) 2 ≡ false
+    → eqb (c .number) 0x007C ≡ false → eqb (c .number) 0x00B9 ≡ false → length (c .value) ≡ sizeOf (rowOf (c .number) .set) → measureRefusal c ≡ none
 unfolding measureRefusal measureRefusals firstRefusal
-measurement-accepted c legal row size = rw (legal, row, eq-eqb _ _ size)
+measurement-accepted c legal row read-only not-id not-type size = rw (legal, row, read-only, not-id, not-type, eq-eqb _ _ size)
 
 measured-value : (c : MeasureCall) → Sized (c .board .parameters) → measureRefusal c ≡ none → valueOf (measuredBoard c .parameters .store) (c .number) ≡ c .value
 unfolding measureRefusal measureRefusals measuredBoard
