@@ -85,7 +85,7 @@ sendable r legal short right of-discovery = by-discovery (isDiscovery r) refl ri
         λ i. short i && (ap allAlphanumeric own ∙ sound-parts (r .board) legal .password) i
 
 pub responses-agree : ResponsesAgree
-responses-agree c result after size sized steps e of-discovery =
+responses-agree c result after size sized steps e =
     let r : Request = request c in
     let packet : List ℕ = take size after in
     let back : Responded c packet = responded c steps e in
@@ -102,7 +102,8 @@ responses-agree c result after size sized steps e of-discovery =
     let passes : packetRefusal packet ≡ none = ap packetRefusal (back .packet-sent) ∙ reading .accepted in
     let formed : firstRefusal responseRefusals (frameOf packet) ≡ none =
     response-by (frameOf packet) (ap (λ (f : Frame). noResponse (f .function)) found) (ap (λ (o : Option (List Report)). not (isSome o)) told) in
-    let accepted : readRefusal (readCall packet (r .frame .id) (r .frame .password)) ≡ none =
+    let accepted : (isDiscovery r ≡ true → isPassword (r .frame .password) ≡ true) → readRefusal (readCall packet (r .frame .id) (r .frame .password)) ≡ none =
+    λ of-discovery.
     read-by (readCall packet (r .frame .id) (r .frame .password))
     (ap not (sizes .0))
     (ap not (sendable r legal (sizes .1) (passed .password) of-discovery))
@@ -111,7 +112,7 @@ responses-agree c result after size sized steps e of-discovery =
     (ap (λ (f : Frame). otherPassword (r .frame .password) (f .password)) found ∙ ap not (same-self (r .frame .password)))
     ∙ formed in
     record {
-      accepted = ap (λ (o : Option ℕ). responseAs o (placesOf packet)) accepted;
+      accepted = λ of-discovery. ap (λ (o : Option ℕ). responseAs o (placesOf packet)) (accepted of-discovery);
       reports = told;
       listed = λ i. listingAs ((any-by packet passes ∙ formed) i) (Option·getD (told i) []);
     }

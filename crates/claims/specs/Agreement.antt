@@ -52,22 +52,25 @@ RequestsAgree =
 
 -- the tool, asking with the ID and the password of a request, accepts a packet and reads in it what the board reports to the request
 pub record ResponseRead (r : Request) (packet : List ℕ) : Type 0 where
-  pub accepted : responseOf (readCall packet (r .frame .id) (r .frame .password)) ≡ acceptedAt (placesOf packet)
+  -- a discovery (search) alone may bear a password that the tool refuses to expect
+  pub accepted :
+      (isDiscovery r ≡ true → isPassword (r .frame .password) ≡ true)
+      → responseOf (readCall packet (r .frame .id) (r .frame .password)) ≡ acceptedAt (placesOf packet)
   pub reports : read.reportsOf packet ≡ some (reportsOf r)
   -- its listing has a line for each of them
   pub listed : listing packet ≡ header ++ reportLines (reportsOf r)
 
--- whatever the board responds; a discovery (search) alone may bear a password that the tool would not send
+-- whatever the board responds
 abbrev pub ResponsesAgree : Type 0
 ResponsesAgree =
     (c : Call) (result : Stepped) (after : List ℕ) (size : ℕ) → Sized (c .board .parameters) → Steps c result after → result .answer ≡ Response size
-    → (isDiscovery (request c) ≡ true → isPassword (request c .frame .password) ≡ true)
     → ResponseRead (request c) (take size after)
 
--- there and back: a response to what the tool wrote is read as what the board reports to what the tool was given
+-- there and back: the tool accepts a response to what it wrote, and reads what the board reports to what it was given
 abbrev pub ExchangesAgree : Type 0
 ExchangesAgree =
     (given : WriteCall) (answer : Written) (written : List ℕ) (size : ℕ) → Writes given answer written → answer ≡ Length size
     → (board : Board) (buffer : List ℕ) (result : Stepped) (after : List ℕ) (back : ℕ) → Sized (board .parameters)
     → Steps (call board (take size written) buffer) result after → result .answer ≡ Response back
-    → ResponseRead (requestOf board (tool.requestOf given)) (take back after)
+    → (responseOf (readCall (take back after) (given .id) (given .password)) ≡ acceptedAt (placesOf (take back after)))
+    × ResponseRead (requestOf board (tool.requestOf given)) (take back after)
