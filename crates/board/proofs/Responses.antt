@@ -26,7 +26,6 @@ use Rattle.store.specs.Layout.{valueOf}
 use Rattle.store.specs.Rows.{rows, indexIn, known}
 use Rattle.store.specs.Sound as stored
 use Rattle.board.specs.Answering.{answered, refusedWith, respondedWith, responded, scopeOf}
-use Rattle.model.specs.Changes.{Sized}
 use Rattle.model.specs.Commands.{afterCommand, reported, run, runReports, discovered, discoverReports}
 use Rattle.commands.specs.Draft.{blank, taken, extended, exceeded, reportedIn, runReportsIn, selected, ranOf, ranBehind}
 use Rattle.model.specs.Record.{sound, micra, withParameters}
@@ -39,7 +38,7 @@ use Rattle.commands.specs.declared.Scope.{Scope}
 use Rattle.commands.specs.declared.Scope.the-variants.{All, Identity}
 use Rattle.model.proofs.Changed.{read-keeps, values-reported}
 use Rattle.model.proofs.EncodableReports.{Fit, fit-after, encodable-join, encodable-reported}
-use Rattle.model.proofs.Soundness.{sound-parts, id-length}
+use Rattle.model.proofs.Soundness.{Sized, sound-parts, id-length}
 use Rattle.model.proofs.StepRefusals.{request-refusal-by}
 
 -- reads leave the parameters as they were
@@ -293,6 +292,6 @@ module _ (r : Request) (buffer : List ℕ) (legal : sound (r .board) ≡ true) (
         ∙ ap (λ (o : Option ℕ). outcomeBy o r buffer) (sym (request-refusal-by r refl refl refl refl refl refl))
 
 pub answered-outcome :
-    (r : Request) (buffer : List ℕ) → sound (r .board) ≡ true → Sized (r .board .parameters) → length (r .frame .password) ≤ 8 → 256 ≤ length buffer
+    (r : Request) (buffer : List ℕ) → sound (r .board) ≡ true → length (r .frame .password) ≤ 8 → 256 ≤ length buffer
     → answered r buffer ≡ outcomeBy (firstRefusal requestRefusals r) r buffer
-answered-outcome r buffer legal sized short room = by-checks r buffer legal short room sized
+answered-outcome r buffer legal short room = by-checks r buffer legal short room (sound-parts (r .board) legal .sized)

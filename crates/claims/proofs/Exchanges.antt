@@ -8,10 +8,10 @@ use Rattle.claims.proofs.RequestsRead.{PacketSent, packet-sent, frame-r
 use Rattle.claims.proofs.ResponsesRead.{responses-agree}
 
 pub exchanges-agree : ExchangesAgree
-exchanges-agree given answer written size writes e board buffer result after back sized steps responds =
+exchanges-agree given answer written size writes e board buffer result after back steps responds =
     let sent : PacketSent given (take size written) = packet-sent given writes e in
     let asked : request (call board (take size written) buffer) ≡ requestOf board (tool.requestOf given) = ap (requestOf board) (frame-read given sent .1) in
     let read : ResponseRead (requestOf board (tool.requestOf given)) (take back after) =
     subst (λ (r : Request). ResponseRead r (take back after)) asked
-    (responses-agree (call board (take size written) buffer) result after back sized steps responds) in
+    (responses-agree (call board (take size written) buffer) result after back steps responds) in
     (read .accepted (λ d. sent .taken .password), read)

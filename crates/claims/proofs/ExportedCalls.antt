@@ -92,14 +92,14 @@ in-numbers {r} {packet} read =
     }
 
 pub exported-responses-agree : ExportedResponsesAgree
-exported-responses-agree c next reply after sized contract long =
+exported-responses-agree c next reply after contract long =
     let follows = exports-follow .packet c next reply after contract in
     in-numbers
-    (responses-agree c (follows .result) after (reply .length) sized (follows .contract) (responded (follows .result .answer) (follows .answer) long))
+    (responses-agree c (follows .result) after (reply .length) (follows .contract) (responded (follows .result .answer) (follows .answer) long))
 
 pub exported-exchanges-agree : ExportedExchangesAgree
-exported-exchanges-agree given reply after contract zero board next buffer held back sized contract′ long =
+exported-exchanges-agree given reply after contract zero board next buffer held back contract′ long =
     let follows = exports-follow .packet _ next back held contract′ in
     in-numbers
-    (exchanges-agree given (Length (reply .length)) after (reply .length) (written given contract zero) refl board buffer (follows .result) held (back .length) sized
+    (exchanges-agree given (Length (reply .length)) after (reply .length) (written given contract zero) refl board buffer (follows .result) held (back .length)
     (follows .contract) (responded (follows .result .answer) (follows .answer) long) .1)

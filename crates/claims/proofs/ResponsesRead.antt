@@ -85,7 +85,7 @@ sendable r legal short right of-discovery = by-discovery (isDiscovery r) refl ri
         λ i. short i && (ap allAlphanumeric own ∙ sound-parts (r .board) legal .password) i
 
 pub responses-agree : ResponsesAgree
-responses-agree c result after size sized steps e =
+responses-agree c result after size steps e =
     let r : Request = request c in
     let packet : List ℕ = take size after in
     let back : Responded c packet = responded c steps e in
@@ -98,7 +98,7 @@ responses-agree c result after size sized steps e =
     let reading : ReadsBack (response r) = reads-written (response r) framed in
     let found : frameOf packet ≡ response r = ap frameOf (back .packet-sent) ∙ reading .frame-back in
     let told : reports (frameOf packet .block) ≡ some (reportsOf r) =
-    ap (λ (f : Frame). reports (f .block)) found ∙ reports-decode (reportsOf r) (reports-encodable r legal sized) in
+    ap (λ (f : Frame). reports (f .block)) found ∙ reports-decode (reportsOf r) (reports-encodable r legal) in
     let passes : packetRefusal packet ≡ none = ap packetRefusal (back .packet-sent) ∙ reading .accepted in
     let formed : firstRefusal responseRefusals (frameOf packet) ≡ none =
     response-by (frameOf packet) (ap (λ (f : Frame). noResponse (f .function)) found) (ap (λ (o : Option (List Report)). not (isSome o)) told) in

@@ -12,7 +12,6 @@ use Rattle.framing.specs.Identity.{defaultId, isPassword}
 use Rattle.framing.specs.Packet.{packetRefusal, placesOf}
 use Rattle.block.specs.Command.{isRead}
 use Rattle.block.specs.Encoding.{firstFunction, every}
-use Rattle.model.specs.Changes.{Sized}
 use Rattle.model.specs.Record.{client, accessPoint, passwordOf, sound}
 use Rattle.model.specs.Refusals.{Silent, Responds}
 use Rattle.model.specs.Step.{Request, Call, call, requestOf, request, isDiscovery, decoded, reportsOf, response, Steps}
@@ -63,14 +62,14 @@ pub record ResponseRead (r : Request) (packet : List ℕ) : Type 0 where
 -- whatever the board responds
 abbrev pub ResponsesAgree : Type 0
 ResponsesAgree =
-    (c : Call) (result : Stepped) (after : List ℕ) (size : ℕ) → Sized (c .board .parameters) → Steps c result after → result .answer ≡ Response size
+    (c : Call) (result : Stepped) (after : List ℕ) (size : ℕ) → Steps c result after → result .answer ≡ Response size
     → ResponseRead (request c) (take size after)
 
 -- there and back: the tool accepts a response to what it wrote, and reads what the board reports to what it was given
 abbrev pub ExchangesAgree : Type 0
 ExchangesAgree =
     (given : WriteCall) (answer : Written) (written : List ℕ) (size : ℕ) → Writes given answer written → answer ≡ Length size
-    → (board : Board) (buffer : List ℕ) (result : Stepped) (after : List ℕ) (back : ℕ) → Sized (board .parameters)
+    → (board : Board) (buffer : List ℕ) (result : Stepped) (after : List ℕ) (back : ℕ)
     → Steps (call board (take size written) buffer) result after → result .answer ≡ Response back
     → (responseOf (readCall (take back after) (given .id) (given .password)) ≡ acceptedAt (placesOf (take back after)))
     × ResponseRead (requestOf board (tool.requestOf given)) (take back after)

@@ -6,7 +6,6 @@ use mathlib.Core.List.{List, _++_}
 use mathlib.Core.Path.{_≡_}
 use lib.ListN.{length, take, drop}
 use Rattle.framing.specs.Identity.{isPassword}
-use Rattle.model.specs.Changes.{Sized}
 use Rattle.model.specs.Step.{Request, Call, call, requestOf, request, isDiscovery, reportsOf}
 use Rattle.model.specs.declared.Board.{Board}
 use Rattle.tool.specs.Listing.{reportLines, header, listing}
@@ -44,13 +43,13 @@ pub record ResponseTold (r : Request) (packet : List ℕ) : Type 0 where
 -- whatever `udgornwy_packet` responds: a reply with a length
 abbrev pub ExportedResponsesAgree : Type 0
 ExportedResponsesAgree =
-    (c : Call) (next : Board) (reply : Reply) (after : List ℕ) → Sized (c .board .parameters) → Replies c next reply after
+    (c : Call) (next : Board) (reply : Reply) (after : List ℕ) → Replies c next reply after
     → 1 ≤ reply .length → ResponseTold (request c) (take (reply .length) after)
 
 -- there and back
 abbrev pub ExportedExchangesAgree : Type 0
 ExportedExchangesAgree =
     (given : WriteCall) (reply : Reply) (written : List ℕ) → WritesInNumbers given reply written → reply .refusal ≡ 0
-    → (board next : Board) (buffer after : List ℕ) (back : Reply) → Sized (board .parameters)
+    → (board next : Board) (buffer after : List ℕ) (back : Reply)
     → Replies (call board (take (reply .length) written) buffer) next back after → 1 ≤ back .length
     → ResponseTold (requestOf board (tool.requestOf given)) (take (back .length) after)

@@ -34,16 +34,16 @@ use Rattle.schedule.specs.Operations.{scheduleNumber, dayIn, periodIn, entryIn,
 use Rattle.schedule.specs.declared.Answer.{Answer as Answered}
 use Rattle.schedule.specs.declared.Schedule.{Schedule}
 use Rattle.schedule.proofs.Laws as schedule
-use Rattle.model.specs.Changes.{Asks, mayChange, noneChanges, legalFields, isForEntry, storesEntry, noneStores, SameIdentity, Sized, Legal, ValuesReported, OthersLeft, EntriesReadBack, CarriedOut, CommandRuns, PacketsChange, MeasurementsChange, SetUpsLegal}
+use Rattle.model.specs.Changes.{Asks, mayChange, noneChanges, legalFields, isForEntry, storesEntry, noneStores, SameIdentity, ValuesReported, OthersLeft, EntriesReadBack, CarriedOut, CommandRuns, PacketsChange, MeasurementsChange, SetUpsLegal}
 use Rattle.model.specs.Commands.{isSchedule, isWrite, afterEntry, afterCommand, rowReport, entryReport, reported, run, runReports, discoverReports}
 use Rattle.model.specs.Measurement.{MeasureCall, measureRefusals, measureRefusal, measuredBy, measuredBoard}
 use Rattle.model.specs.Record.{isId, micra, parametersOf, withParameters, SetUp, setUpRefusals, setUpRefusal, startBoard, unset, boardOf, setUpBoard, sound}
-use Rattle.model.specs.Step.{Call, request, isDiscovery, commandsOf, reportsOf, stepRefusal, step}
+use Rattle.model.specs.Step.{Call, request, unsound, isDiscovery, commandsOf, reportsOf, stepRefusal, step}
 use Rattle.model.specs.declared.Board.{Board}
 use Rattle.model.specs.declared.Parameters.{Parameters}
 use Rattle.model.proofs.RowOperations.{operationOf, operates, done, same-room, carried-out}
-use Rattle.model.proofs.Soundness.{SoundParts, sound-parts, parts-sound}
-use Rattle.model.proofs.StepRefusals.{answered-board, on-step}
+use Rattle.model.proofs.Soundness.{Sized, SoundParts, sound-parts, parts-sound}
+use Rattle.model.proofs.StepRefusals.{step-refusal-by, step-refused, passed-step, answered-board, on-step}
 
 -- a command of a row does its operation
 command-done :
@@ -244,7 +244,7 @@ entries-read-back p write read day period sized is-period h read-number reads as
     let kept = both-true (stores (write .value)) (isFor (write .value) day period) (exactly day period (write .value) is-period ∙ both .1) in
     let at = both-true (contains (daysOf (dayIn (write .value))) day) (eqb (periodIn (write .value)) period) (kept .1) in
     let same : periodIn (write .value) ≡ period = eqb-true _ _ (at .1) in
-    let back = schedule.read-back (p .schedule) (write .value) day (sized .schedule) (kept .0) (at .0) in
+    let back = schedule.read-back (p .schedule) (write .value) day sized (kept .0) (at .0) in
     let left : run p (write ∷ read ∷ []) .schedule ≡ written (p .schedule) (write .value) =
     ap (λ (q : Parameters). q .schedule) (read-keeps (afterCommand p write) read reads) ∙ entries-written p write (named .0) (named .1) in
     values-reported (run p (write ∷ read ∷ [])) read .entry read-number
@@ -298,23 +298,20 @@ run-legal {id} cs p = run-keeps (LegalParameters id) (λ (c : Command). true) (�
 parameters-of : {board : Board} → SoundParts board → LegalParameters (board .id) (board .parameters)
 parameters-of parts = record { held = parts .held; scheduled = parts .scheduled; own-id = parts .own-id; unit-type = parts .unit-type }
 
-legal-with : (board : Board) (p : Parameters) → SoundParts board → Sized p × LegalParameters (board .id) p → Legal (withParameters board p)
-legal-with board p parts legal =
-    record {
-      is-sound =
-          parts-sound (withParameters board p)
-          (record {
-            id = parts .id;
-            size = parts .size;
-            password = parts .password;
-            mode = parts .mode;
-            held = legal .1 .held;
-            scheduled = legal .1 .scheduled;
-            own-id = legal .1 .own-id;
-            unit-type = legal .1 .unit-type;
-          });
+sound-with : (board : Board) (p : Parameters) → SoundParts board → Sized p × LegalParameters (board .id) p → sound (withParameters board p) ≡ true
+sound-with board p parts legal =
+    parts-sound (withParameters board p)
+    (record {
+      id = parts .id;
+      size = parts .size;
+      password = parts .password;
+      mode = parts .mode;
       sized = legal .0;
-    }
+      held = legal .1 .held;
+      scheduled = legal .1 .scheduled;
+      own-id = legal .1 .own-id;
+      unit-type = legal .1 .unit-type;
+    })
 
 run-sized : (cs : List Command) (p : Parameters) → Sized p → Sized (run p cs)
 run-sized cs p sized = run-keeps Sized (λ (c : Command). true) (λ q c h size so-far. sized-after q c size) cs p (every-command cs) sized sized .0
@@ -391,12 +388,23 @@ no-reports c e =
     ap (λ (cs : List Command). cond (isDiscovery (request c)) (discoverReports (c .board .id) cs) (runReports (c .board .parameters) cs)) (asked c [] e)
     ∙ either-way (isDiscovery (request c)) []
 
+-- what holds of the record and, if it is sound, of it with the parameters that the commands leave
+on-sound :
+    (P : Board → Type 0) (c : Call) → P (c .board)
+    → (SoundParts (c .board) → P (withParameters (c .board) (run (c .board .parameters) (commandsOf (request c))))) → P (step c .board)
+on-sound P c unchanged changed = by-record (unsound c) refl
+  where
+    by-record : (is-unsound : Bool) → unsound c ≡ is-unsound → P (step c .board)
+    by-record true e = rw (step-refused c (step-refusal-by c e refl refl refl)) unchanged
+    by-record false e = on-step P c unchanged (changed (sound-parts (c .board) (not-false _ e)))
+
 runs :
-    (c : Call) → Sized (c .board .parameters) → stepRefusal c ≡ none → (c .board .mode ≡ 1 → frameOf (c .packet) .id ≡ defaultId → ⊥)
+    (c : Call) → stepRefusal c ≡ none → (c .board .mode ≡ 1 → frameOf (c .packet) .id ≡ defaultId → ⊥)
     → (before : List Command) (command : Command) (behind : List Command)
     → Asks c (before ++ command ∷ behind) → CommandRuns c before command behind
-runs c sized accepted no-search before command behind read =
+runs c accepted no-search before command behind read =
     let p : Parameters = c .board .parameters in
+    let sized : Sized p = sound-parts (c .board) (not-false _ (passed-step c accepted .board)) .sized in
     let other : isDiscovery (request c) ≡ false = no-discovery c no-search in
     let e : commandsOf (request c) ≡ before ++ command ∷ behind = asked c _ read in
     let left : step c .board .parameters ≡ run p (before ++ command ∷ behind) =
@@ -416,38 +424,37 @@ runs c sized accepted no-search before command behind read =
           ∙ reports-join before command behind p;
     }
 
-step-legal : (c : Call) → Sized (c .board .parameters) → Legal (c .board) → Legal (step c .board)
-step-legal c sized legal =
-    let parts : SoundParts (c .board) = sound-parts (c .board) (legal .is-sound) in
-    on-step Legal c legal (legal-with (c .board) _ parts (run-legal (commandsOf (request c)) (c .board .parameters) sized (parameters-of parts)))
+step-sound : (c : Call) → sound (c .board) ≡ true → sound (step c .board) ≡ true
+step-sound c legal =
+    on-sound (λ (b : Board). sound b ≡ true) c legal
+    (λ parts. sound-with (c .board) _ parts (run-legal (commandsOf (request c)) (c .board .parameters) (parts .sized) (parameters-of parts)))
 
 pub packets-change : PacketsChange
-packets-change c sized =
+packets-change c =
     record {
       identity = on-step (SameIdentity (c .board)) c (same-identity (c .board) (c .board .parameters)) (same-identity (c .board) _);
       others = λ cs e n h.
-          on-step (λ (b : Board). roomOf (b .parameters .store) n ≡ roomOf (c .board .parameters .store) n) c refl
-          (run-others n (commandsOf (request c)) (c .board .parameters) (ap (noneChanges n) (asked c cs e) ∙ h) sized);
+          on-sound (λ (b : Board). roomOf (b .parameters .store) n ≡ roomOf (c .board .parameters .store) n) c refl
+          (λ parts. run-others n (commandsOf (request c)) (c .board .parameters) (ap (noneChanges n) (asked c cs e) ∙ h) (parts .sized));
       entries = λ cs e day period is-day is-period h.
-          on-step (λ (b : Board). entryAt (b .parameters .schedule) day period ≡ entryAt (c .board .parameters .schedule) day period) c refl
-          (run-entries day period is-day is-period (commandsOf (request c)) (c .board .parameters) (ap (noneStores day period) (asked c cs e) ∙ h) sized);
+          on-sound (λ (b : Board). entryAt (b .parameters .schedule) day period ≡ entryAt (c .board .parameters .schedule) day period) c refl
+          (λ parts. run-entries day period is-day is-period (commandsOf (request c)) (c .board .parameters) (ap (noneStores day period) (asked c cs e) ∙ h) (parts .sized));
       silent = no-reports c;
-      runs = runs c sized;
-      legal = step-legal c sized;
-      members = λ h n row.
-          held-legal (step c .board .parameters .store) n
-          (sound-parts (step c .board) (step-legal c sized (record { is-sound = h; sized = sized }) .is-sound) .held) row;
+      runs = runs c;
+      legal = step-sound c;
+      members = λ h n row. held-legal (step c .board .parameters .store) n (sound-parts (step c .board) (step-sound c h) .held) row;
     }
 
 on-measured :
-    (P : Board → Type 0) (c : MeasureCall) → P (c .board) → P (withParameters (c .board) (parametersOf (after (Measure (c .value)) (c .board .parameters .store) (c .number)) (c .board .parameters .schedule)))
+    (P : Board → Type 0) (c : MeasureCall) → P (c .board)
+    → (SoundParts (c .board) → P (withParameters (c .board) (parametersOf (after (Measure (c .value)) (c .board .parameters .store) (c .number)) (c .board .parameters .schedule))))
     → P (measuredBoard c)
-unfolding measuredBoard
-on-measured P c unchanged changed = by-refusal (measureRefusal c)
+unfolding measuredBoard measureRefusal measureRefusals
+on-measured P c unchanged changed = by-refusal (measureRefusal c) refl
   where
-    by-refusal : (o : Option ℕ) → P (measuredBy o c)
-    by-refusal none = changed
-    by-refusal (some number) = unchanged
+    by-refusal : (o : Option ℕ) → measureRefusal c ≡ o → P (measuredBy o c)
+    by-refusal none e = changed (sound-parts (c .board) (not-false _ (not-refused _ _ c e .0)))
+    by-refusal (some number) e = unchanged
 
 measurement-accepted :
     (c : MeasureCall) → sound (c .board) ≡ true → allows (c .number) 1 ≡ true → allows (c .number) 2 ≡ false
@@ -455,12 +462,13 @@ measurement-accepted :
 unfolding measureRefusal measureRefusals firstRefusal
 measurement-accepted c legal row read-only not-id not-type size = rw (legal, row, read-only, not-id, not-type, eq-eqb _ _ size)
 
-measured-value : (c : MeasureCall) → Sized (c .board .parameters) → measureRefusal c ≡ none → valueOf (measuredBoard c .parameters .store) (c .number) ≡ c .value
+measured-value : (c : MeasureCall) → measureRefusal c ≡ none → valueOf (measuredBoard c .parameters .store) (c .number) ≡ c .value
 unfolding measureRefusal measureRefusals measuredBoard
-measured-value c sized e =
+measured-value c e =
     let seventy = not-refused _ _ c e in
     let thirty = not-refused _ _ c (seventy .1) in
     let thirty-one = not-refused _ _ c (thirty .1) in
+    let sized : Sized (c .board .parameters) = sound-parts (c .board) (not-false _ (seventy .0)) .sized in
     let row : measurable (c .number) ≡ true = not-false _ (thirty .0) in
     let size : eqb (length (c .value)) (sizeOf (rowOf (c .number) .set)) ≡ true = not-false _ (thirty-one .0) in
     let stored : newValue (Measure (c .value)) (c .board .parameters .store) (c .number) ≡ some (c .value) = rw (row, size) in
@@ -468,25 +476,25 @@ measured-value c sized e =
     ∙ read-back (Measure (c .value)) (c .board .parameters .store) (c .number) (c .value) (sized .store) stored
 
 pub measurements-change : MeasurementsChange
-measurements-change c sized =
+measurements-change c =
     record {
-      identity = on-measured (SameIdentity (c .board)) c (same-identity (c .board) (c .board .parameters)) (same-identity (c .board) _);
+      identity = on-measured (SameIdentity (c .board)) c (same-identity (c .board) (c .board .parameters)) (λ parts. same-identity (c .board) _);
       accepted = measurement-accepted c;
-      stored = measured-value c sized;
+      stored = measured-value c;
       others = λ n h.
           on-measured (λ (b : Board). roomOf (b .parameters .store) n ≡ roomOf (c .board .parameters .store) n) c refl
-          (others-kept (Measure (c .value)) (c .board .parameters .store) (c .number) n (sized .store) h);
-      entries = on-measured (λ (b : Board). b .parameters .schedule ≡ c .board .parameters .schedule) c refl refl;
+          (λ parts. others-kept (Measure (c .value)) (c .board .parameters .store) (c .number) n (parts .sized .store) h);
+      entries = on-measured (λ (b : Board). b .parameters .schedule ≡ c .board .parameters .schedule) c refl (λ parts. refl);
       legal = λ legal.
-          let parts : SoundParts (c .board) = sound-parts (c .board) (legal .is-sound) in
-          on-measured Legal c legal
-          (legal-with (c .board) _ parts (
-            record { store = size-kept (Measure (c .value)) (c .board .parameters .store) (c .number) (sized .store); schedule = sized .schedule },
-            operation-legal (Measure (c .value)) (c .board .parameters) (c .number) sized (parameters-of parts),
+          on-measured (λ (b : Board). sound b ≡ true) c legal
+          (λ parts.
+          sound-with (c .board) _ parts (
+            record { store = size-kept (Measure (c .value)) (c .board .parameters .store) (c .number) (parts .sized .store); schedule = parts .sized .schedule },
+            operation-legal (Measure (c .value)) (c .board .parameters) (c .number) (parts .sized) (parameters-of parts),
           ));
     }
 
-started : (given : SetUp) → setUpRefusal given ≡ none → Legal (startBoard given)
+started : (given : SetUp) → setUpRefusal given ≡ none → sound (startBoard given) ≡ true
 unfolding setUpRefusal setUpRefusals
 started given e =
     let twenty = not-refused _ _ given e in
@@ -496,21 +504,18 @@ started given e =
     let id-size : length (given .id) ≡ 16 = eqb-true _ _ (both-true (eqb (length (given .id)) 16) _ id .0) in
     let password : (leb (length (given .password)) 8 ≡ true) × (allAlphanumeric (given .password) ≡ true) =
     both-true (leb (length (given .password)) 8) _ (not-false _ (twenty-one .0)) in
-    record {
-      is-sound =
-          parts-sound (startBoard given)
-          (record {
-            id = id;
-            size = password .0;
-            password = rw (take-at (given .password) (replicate (8 - length (given .password)) 0) (length (given .password)) refl) (password .1);
-            mode = not-false _ (twenty-two .0);
-            held = start-sound (given .id) id-size;
-            scheduled = schedule.start-sound;
-            own-id = start-identity (given .id) id-size .0;
-            unit-type = start-identity (given .id) id-size .1;
-          });
+    parts-sound (startBoard given)
+    (record {
+      id = id;
+      size = password .0;
+      password = rw (take-at (given .password) (replicate (8 - length (given .password)) 0) (length (given .password)) refl) (password .1);
+      mode = not-false _ (twenty-two .0);
       sized = record { store = start-sized (given .id) id-size; schedule = schedule.start-sized };
-    }
+      held = start-sound (given .id) id-size;
+      scheduled = schedule.start-sound;
+      own-id = start-identity (given .id) id-size .0;
+      unit-type = start-identity (given .id) id-size .1;
+    })
 
 unset-accepted : setUpRefusal unset ≡ none
 unfolding setUpRefusal setUpRefusals firstRefusal same defaultId allAlphanumeric
@@ -520,6 +525,6 @@ pub set-ups-legal : SetUpsLegal
 unfolding setUpBoard
 set-ups-legal given = by-refusal (setUpRefusal given) refl
   where
-    by-refusal : (o : Option ℕ) → setUpRefusal given ≡ o → Legal (boardOf o given)
+    by-refusal : (o : Option ℕ) → setUpRefusal given ≡ o → sound (boardOf o given) ≡ true
     by-refusal none e = started given e
     by-refusal (some number) e = started unset unset-accepted

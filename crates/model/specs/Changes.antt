@@ -16,7 +16,6 @@ use Rattle.framing.specs.Packet.{frameOf}
 use Rattle.block.specs.Command.{Command, commandNumber, held, unknown}
 use Rattle.block.specs.Encoding.{every}
 use Rattle.block.specs.Request.{commands}
-use Rattle.store.specs.Laws as rows
 use Rattle.store.specs.Laws.{Least, Greatest, heldNumber}
 use Rattle.store.specs.Layout.{sizeOf, roomOf, valueOf}
 use Rattle.store.specs.Operations.{affected}
@@ -71,16 +70,6 @@ pub record SameIdentity (before after : Board) : Type 0 where
   pub size : after .size ≡ before .size
   pub mode : after .mode ≡ before .mode
 
--- parameters as long as the code has them
-pub record Sized (parameters : Parameters) : Type 0 where
-  pub store : rows.Sized (parameters .store)
-  pub schedule : entries.Sized (parameters .schedule)
-
--- a record that each call may take: sound, and its parameters as long as the code has them
-pub record Legal (board : Board) : Type 0 where
-  pub is-sound : sound board ≡ true
-  pub sized : Sized (board .parameters)
-
 -- what a command reports: nothing under 02, else the value held, or the mark of an unknown parameter
 pub record ReportsHeld (parameters : Parameters) (c : Command) : Type 0 where
   pub silence : eqb (c .function) 2 ≡ true → reported parameters c ≡ []
@@ -108,7 +97,7 @@ OthersLeft = (parameters : Parameters) (c : Command) → LeavesOthers parameters
 -- a read of the schedule just after a write gives back what was written, on each day of the write
 abbrev pub EntriesReadBack : Type 0
 EntriesReadBack =
-    (parameters : Parameters) (write read : Command) (day period : ℕ) → Sized parameters
+    (parameters : Parameters) (write read : Command) (day period : ℕ) → entries.Sized (parameters .schedule)
     → between 1 4 period ≡ true → storesEntry day period write ≡ true
     → eqb (commandNumber read) 0x0077 ≡ true → read .function ≡ 1 → read .value ≡ day ∷ period ∷ []
     → reported (run parameters (write ∷ read ∷ [])) read ≡ held (read .page) (read .low) (day ∷ drop 1 (write .value)) ∷ []
@@ -176,11 +165,11 @@ pub record PacketChanges (c : Call) : Type 0 where
       stepRefusal c ≡ none → (c .board .mode ≡ 1 → frameOf (c .packet) .id ≡ defaultId → ⊥)
       → (before : List Command) (command : Command) (behind : List Command)
       → Asks c (before ++ command ∷ behind) → CommandRuns c before command behind
-  pub legal : Legal (c .board) → Legal (step c .board)
+  pub legal : sound (c .board) ≡ true → sound (step c .board) ≡ true
   pub members : sound (c .board) ≡ true → (n : ℕ) → allows n 1 ≡ true → member (rowOf n .set) (valueOf (step c .board .parameters .store) n) ≡ true
 
 abbrev pub PacketsChange : Type 0
-PacketsChange = (c : Call) → Sized (c .board .parameters) → PacketChanges c
+PacketsChange = (c : Call) → PacketChanges c
 
 pub record MeasurementChanges (c : MeasureCall) : Type 0 where
   pub identity : SameIdentity (c .board) (measuredBoard c)
@@ -193,11 +182,11 @@ pub record MeasurementChanges (c : MeasureCall) : Type 0 where
   pub others :
       (n : ℕ) → affected (c .number) n ≡ false → roomOf (measuredBoard c .parameters .store) n ≡ roomOf (c .board .parameters .store) n
   pub entries : measuredBoard c .parameters .schedule ≡ c .board .parameters .schedule
-  pub legal : Legal (c .board) → Legal (measuredBoard c)
+  pub legal : sound (c .board) ≡ true → sound (measuredBoard c) ≡ true
 
 abbrev pub MeasurementsChange : Type 0
-MeasurementsChange = (c : MeasureCall) → Sized (c .board .parameters) → MeasurementChanges c
+MeasurementsChange = (c : MeasureCall) → MeasurementChanges c
 
--- set-up gives such a record, refused or not
+-- set-up gives a sound record, refused or not
 abbrev pub SetUpsLegal : Type 0
-SetUpsLegal = (given : SetUp) → Legal (setUpBoard given)
+SetUpsLegal = (given : SetUp) → sound (setUpBoard given) ≡ true

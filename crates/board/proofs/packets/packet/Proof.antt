@@ -13,8 +13,6 @@ use lib.ListN.{take, drop, getD}
 use Rattle.framing.specs.Frame.{Frame, frame}
 use Rattle.framing.specs.Packet.{frameAt, frameOf, packetRefusal, placesOf}
 use Rattle.framing.specs.declared.Places.{Places}
-use Rattle.schedule.proofs.Lengths.{unmapped}
-use Rattle.model.specs.Changes.{Sized}
 use Rattle.framing.specs.Refusal.{firstRefusal}
 use Rattle.board.specs.Answering.{answered}
 use Rattle.model.specs.Step.{Request, call, outcomeBy, request, requestOf, step}
@@ -169,15 +167,12 @@ returns-4 c =
     let places = c .before .before .before .before .before .before .before .before .before .parsed .given .0 .0 in
     let read = accepted-places (packetRefusal packet) (c .before .before .before .before .before .before .before .before .before .before .before .read .ensures) (c .before .before .before .before .before .before .before .before .before .parsed .given .1) in
     let sixteen : places .id + 16 - places .id ≡ 16 = omega arith in
-    let whole : Sized (args .board .parameters) =
-    let good = c .before .before .before .before .before .before .before .before .before .before .before .before .before .before .before .before .before .before .before .before .good .0 .1 .1 .1 .1 .1 .1 .0 in
-    record { store = search (needs, good); schedule = search (needs, unmapped, good) } in
     let same-frame = ap (λ (n : ℕ). requestOf (args .board) (frame (take n (drop (places .id) packet)) (take (places .function - places .password) (drop (places .password) packet)) (getD packet (places .function) 0) (take (places .end - places .block) (drop (places .block) packet)))) sixteen
     ∙ ap (λ (p : Places). requestOf (args .board) (frameAt packet p)) (read .1) in
     let room : 256 ≤ length buffer = ltb-false _ _ buffer-right in
     steps
     (ap (λ (refusal : Option ℕ). outcomeBy refusal (request asked) buffer) (step-refusal-by asked record-right buffer-right (read .0) refl)
-    ∙ sym (answered-outcome (request asked) buffer (not-false _ record-right) whole (password-short packet (read .0)) room)
+    ∙ sym (answered-outcome (request asked) buffer (not-false _ record-right) (password-short packet (read .0)) room)
     ∙ ap (λ (r : Request). answered r buffer) (sym same-frame))
     (c .before .before .answer .ensures)
 
