@@ -15,7 +15,7 @@ use Rattle.framing.specs.Identity.{allAlphanumeric, defaultId}
 use Rattle.framing.specs.Packet.{frameOf}
 use Rattle.framing.specs.Refusal.{firstRefusal}
 use Rattle.framing.proofs.Refusals.{not-refused}
-use Rattle.block.specs.Command.{Command, commandNumber, Report, held}
+use Rattle.block.specs.Command.{Command, commandNumber, Report, held, unknown}
 use Rattle.block.specs.Encoding.{every}
 use Rattle.store.specs.Laws.{Operation, Write, Raise, Lower, Measure, newValue, after}
 use Rattle.store.specs.Layout.{roomOf, valueOf, sizeOf}
@@ -26,15 +26,16 @@ use Rattle.store.specs.Sound as rows
 use Rattle.store.specs.declared.Answer.the-variants.{Value, Unknown, Silence}
 use Rattle.store.specs.declared.Store.{Store}
 use Rattle.store.proofs.Laws.{size-kept, others-kept, identity-kept, read-back, sound-kept, held-legal, start-sized, start-sound, start-identity}
-use Rattle.schedule.specs.Days.{isDay, isPeriod, daysOf, contains, isEmpty, isWritable}
+use Rattle.schedule.specs.Days.{isDay, isPeriod, daysOf, contains, isEmpty, isWritable, firstDay}
 use Rattle.schedule.specs.Entries as entries
 use Rattle.schedule.specs.Entries.{entryAt}
 use Rattle.schedule.specs.Laws.{isFor}
-use Rattle.schedule.specs.Operations.{scheduleNumber, dayIn, periodIn, entryIn, answered, stores, written}
+use Rattle.schedule.specs.Operations.{scheduleNumber, dayIn, periodIn, entryIn, reads, writes, askedBy, addressedBy, answered, stores, written}
 use Rattle.schedule.specs.declared.Answer.{Answer as Answered}
+use Rattle.schedule.specs.declared.Answer.the-variants as entry
 use Rattle.schedule.specs.declared.Schedule.{Schedule}
 use Rattle.schedule.proofs.Laws as schedule
-use Rattle.model.specs.Changes.{Asks, mayChange, noneChanges, legalFields, isForEntry, storesEntry, noneStores, SameIdentity, ValuesReported, OthersLeft, EntriesReadBack, CarriedOut, CommandRuns, PacketsChange, MeasurementsChange, SetUpsLegal}
+use Rattle.model.specs.Changes.{Asks, mayChange, noneChanges, legalFields, isForEntry, storesEntry, noneStores, asksEntry, writesEntry, entryOn, SameIdentity, ValuesReported, OthersLeft, EntriesReadBack, CarriedOut, CommandRuns, PacketsChange, MeasurementsChange, SetUpsLegal}
 use Rattle.model.specs.Commands.{isSchedule, isWrite, afterEntry, afterCommand, rowReport, entryReport, reported, run, runReports, discoverReports}
 use Rattle.model.specs.Measurement.{MeasureCall, measureRefusals, measureRefusal, measuredBy, measuredBoard}
 use Rattle.model.specs.Record.{isId, micra, parametersOf, withParameters, SetUp, setUpRefusals, setUpRefusal, startBoard, unset, boardOf, setUpBoard, sound}
@@ -108,6 +109,35 @@ known-row n h = by-number (eqb n scheduleNumber) refl
     by-number true e = let named : known n ≡ false = ap known (eqb-true n scheduleNumber e) ∙ no-row in cc
     by-number false e = refl
 
+-- of the schedule, by its answer
+pub entry-reported : (p : Parameters) (c : Command) → isSchedule c ≡ true → reported p c ≡ entryReport (answered (c .function) (c .value)) (p .schedule) c
+unfolding reported
+entry-reported p c named = rw named
+
+module _ (p : Parameters) (c : Command) (named : isSchedule c ≡ true) where
+  told : (answer : Answered) → answered (c .function) (c .value) ≡ answer → reported p c ≡ entryReport answer (p .schedule) c
+  told answer e = entry-reported p c named ∙ ap (λ (a : Answered). entryReport a (p .schedule) c) e
+
+  asked-told : asksEntry c ≡ true → reported p c ≡ entryOn (dayIn (c .value)) p c ∷ []
+  asked-told h =
+      let both = both-true (eqb (c .function) 1) (reads (c .value)) h in
+      told (entry.Entry (dayIn (c .value)) (periodIn (c .value))) (rw (both .0, both .1))
+
+  written-told : writesEntry c ≡ true → reported p c ≡ entryOn (firstDay (dayIn (c .value))) p c ∷ []
+  written-told h =
+      let both = both-true (eqb (c .function) 3) (writes (c .value)) h in
+      told (entry.Entry (firstDay (dayIn (c .value))) (periodIn (c .value))) (rw (eqb-true (c .function) 3 (both .0), both .1))
+
+  none-told : eqb (c .function) 2 ≡ false → asksEntry c ≡ false → writesEntry c ≡ false → reported p c ≡ unknown (c .page) (c .low) ∷ []
+  none-told two asks writing = told entry.Unknown (rw two (by-function (eqb (c .function) 1) (eqb (c .function) 3) asks writing))
+    where
+      by-function :
+          (one three : Bool) → (one && reads (c .value)) ≡ false → (three && writes (c .value)) ≡ false
+          → cond one (askedBy (c .value)) (cond three (addressedBy (c .value)) entry.Unknown) ≡ entry.Unknown
+      by-function true three a w = rw a
+      by-function false true a w = rw w
+      by-function false false a w = refl
+
 pub values-reported : ValuesReported
 unfolding reported
 values-reported p c =
@@ -117,7 +147,9 @@ values-reported p c =
     record {
       silence = λ two. by-number two (isSchedule c);
       value = λ other row. λ i. report (known-row (commandNumber c) row i) (other i) (row i);
-      entry = λ h. ap (λ (is-schedule : Bool). report is-schedule (eqb (c .function) 2) rows) h;
+      asked = asked-told p c;
+      written = written-told p c;
+      no-entry = none-told p c;
       mark = λ other row h. λ i. report (h i) (other i) (row i);
     }
   where
@@ -247,7 +279,7 @@ entries-read-back p write read day period sized is-period h read-number reads as
     let back = schedule.read-back (p .schedule) (write .value) day sized (kept .0) (at .0) in
     let left : run p (write ∷ read ∷ []) .schedule ≡ written (p .schedule) (write .value) =
     ap (λ (q : Parameters). q .schedule) (read-keeps (afterCommand p write) read reads) ∙ entries-written p write (named .0) (named .1) in
-    values-reported (run p (write ∷ read ∷ [])) read .entry read-number
+    entry-reported (run p (write ∷ read ∷ [])) read read-number
     ∙ (λ i. entryReport (answered (reads i) ((asked ∙ ap (λ (x : ℕ). day ∷ x ∷ []) (sym same)) i)) (left i) read)
     ∙ ap (λ (a : Answered). entryReport a (written (p .schedule) (write .value)) read) (back .0)
     ∙ ap (λ (v : List ℕ). held (read .page) (read .low) v ∷ []) (back .1)

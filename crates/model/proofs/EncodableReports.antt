@@ -1,7 +1,7 @@
 -- Each report of a board has an encoding: its low byte is a decoded command's, and its value is one of a sound store, of the schedule or of the identity.
 use Prim.Native.Nat.{ℕ, _≤_}
 use native.Mathlib.Omega.{arith}
-use mathlib.Core.Bool.{Bool, true, false, cond, _&&_, _||_}
+use mathlib.Core.Bool.{Bool, true, false, cond, _&&_}
 use mathlib.Core.List.{List, [], _∷_, _++_}
 use mathlib.Core.Option.{Option, none, some, Option·getD}
 use mathlib.Core.Path.{_≡_, refl}
@@ -25,7 +25,7 @@ use Rattle.model.specs.Commands.{isSchedule, afterCommand, entryReport, 
 use Rattle.model.specs.Record.{micra, sound}
 use Rattle.model.specs.Step.{Request, isDiscovery, decoded, commandsOf, reportsOf}
 use Rattle.model.specs.declared.Parameters.{Parameters}
-use Rattle.model.proofs.Changed.{values-reported, on-command, sized-after}
+use Rattle.model.proofs.Changed.{entry-reported, values-reported, on-command, sized-after}
 use Rattle.model.proofs.Soundness.{Sized, SoundParts, sound-parts, id-length}
 
 abbrev pub allEncodable : List Report → Type 0
@@ -74,7 +74,7 @@ encodable-reported p c is-sound low = by-answer (isSchedule c) (eqb (c .function
     by-answer :
         (is-schedule silent row : Bool) → isSchedule c ≡ is-schedule → eqb (c .function) 2 ≡ silent → known (commandNumber c) ≡ row
         → allEncodable (reported p c)
-    by-answer true silent row h s k = rw (reports .entry h) (encodable-entry (answered (c .function) (c .value)) (p .schedule) c low)
+    by-answer true silent row h s k = rw (entry-reported p c h) (encodable-entry (answered (c .function) (c .value)) (p .schedule) c low)
     by-answer false true row h s k = rw (reports .silence s)
     by-answer false false true h s k =
         let lengths : (1 ≤ length (valueOf (p .store) (commandNumber c))) × (length (valueOf (p .store) (commandNumber c)) ≤ 64) =

@@ -13,7 +13,7 @@ use lib.ListN.{length, drop, getD}
 use Rattle.octets.specs.Octets.{between}
 use Rattle.framing.specs.Identity.{defaultId}
 use Rattle.framing.specs.Packet.{frameOf}
-use Rattle.block.specs.Command.{Command, commandNumber, held, unknown}
+use Rattle.block.specs.Command.{Command, commandNumber, Report, held, unknown}
 use Rattle.block.specs.Encoding.{every}
 use Rattle.block.specs.Request.{commands}
 use Rattle.store.specs.Laws.{Least, Greatest, heldNumber}
@@ -23,11 +23,10 @@ use Rattle.store.specs.Rows.{Switch, Number, rowOf, allows}
 use Rattle.store.specs.Sets.{inRange, member}
 use Rattle.store.specs.declared.Range.{Range}
 use Rattle.store.specs.declared.Store.{Store}
-use Rattle.schedule.specs.Days.{daysOf, contains}
-use Rattle.schedule.specs.Entries.{entry, degrees, entryAt}
+use Rattle.schedule.specs.Days.{daysOf, contains, isEmpty}
+use Rattle.schedule.specs.Entries.{entry, degrees, bytesOf, entryAt}
 use Rattle.schedule.specs.Laws as entries
-use Rattle.schedule.specs.Operations.{answered}
-use Rattle.model.specs.Commands.{afterCommand, entryReport, reported, run, runReports}
+use Rattle.model.specs.Commands.{afterCommand, reported, run, runReports}
 use Rattle.model.specs.Measurement.{MeasureCall, measureRefusal, measuredBoard}
 use Rattle.model.specs.Record.{SetUp, setUpBoard, sound}
 use Rattle.model.specs.Step.{Call, request, reportsOf, stepRefusal, step}
@@ -70,15 +69,34 @@ pub record SameIdentity (before after : Board) : Type 0 where
   pub size : after .size ≡ before .size
   pub mode : after .mode ≡ before .mode
 
+-- whether a command asks for an entry: 01 with a day and a period; or writes one, well or not: 03 with six bytes, a day or group, and a period
+abbrev pub asksEntry : Command → Bool
+asksEntry c = eqb (c .function) 1 && (eqb (length (c .value)) 2 && between 1 7 (getD (c .value) 0 0) && between 1 4 (getD (c .value) 1 0))
+
+abbrev pub writesEntry : Command → Bool
+writesEntry c =
+    eqb (c .function) 3 && (eqb (length (c .value)) 6 && not (isEmpty (daysOf (getD (c .value) 0 0))) && between 1 4 (getD (c .value) 1 0))
+
+-- the report of the entry of a day, at the period that the command names: day, period and the entry's four bytes
+abbrev pub entryOn : ℕ → Parameters → Command → Report
+entryOn day parameters c =
+    held (c .page) (c .low) (day ∷ getD (c .value) 1 0 ∷ bytesOf (entryAt (parameters .schedule) day (getD (c .value) 1 0)))
+
 -- what a command reports: nothing under 02, else the value held, or the mark of an unknown parameter
 pub record ReportsHeld (parameters : Parameters) (c : Command) : Type 0 where
   pub silence : eqb (c .function) 2 ≡ true → reported parameters c ≡ []
   pub value :
       eqb (c .function) 2 ≡ false → allows (commandNumber c) 1 ≡ true
       → reported parameters c ≡ held (c .page) (c .low) (valueOf (parameters .store) (commandNumber c)) ∷ []
-  pub entry :
-      eqb (commandNumber c) 0x0077 ≡ true
-      → reported parameters c ≡ entryReport (answered (c .function) (c .value)) (parameters .schedule) c
+  -- of the schedule: the entry asked for, that of the first day written, or the mark
+  pub asked :
+      eqb (commandNumber c) 0x0077 ≡ true → asksEntry c ≡ true → reported parameters c ≡ entryOn (getD (c .value) 0 0) parameters c ∷ []
+  pub written :
+      eqb (commandNumber c) 0x0077 ≡ true → writesEntry c ≡ true
+      → reported parameters c ≡ entryOn (getD (daysOf (getD (c .value) 0 0)) 0 0) parameters c ∷ []
+  pub no-entry :
+      eqb (commandNumber c) 0x0077 ≡ true → eqb (c .function) 2 ≡ false → asksEntry c ≡ false → writesEntry c ≡ false
+      → reported parameters c ≡ unknown (c .page) (c .low) ∷ []
   pub mark :
       eqb (c .function) 2 ≡ false → allows (commandNumber c) 1 ≡ false → eqb (commandNumber c) 0x0077 ≡ false
       → reported parameters c ≡ unknown (c .page) (c .low) ∷ []
@@ -165,6 +183,7 @@ pub record PacketChanges (c : Call) : Type 0 where
       stepRefusal c ≡ none → (c .board .mode ≡ 1 → frameOf (c .packet) .id ≡ defaultId → ⊥)
       → (before : List Command) (command : Command) (behind : List Command)
       → Asks c (before ++ command ∷ behind) → CommandRuns c before command behind
+  -- a sound record stays sound, and each of its rows holds a value of its set
   pub legal : sound (c .board) ≡ true → sound (step c .board) ≡ true
   pub members : sound (c .board) ≡ true → (n : ℕ) → allows n 1 ≡ true → member (rowOf n .set) (valueOf (step c .board .parameters .store) n) ≡ true
 
