@@ -27,7 +27,6 @@ use Rattle.store.specs.Layout.{valueOf}
 use Rattle.store.specs.Rows.{rows, indexIn, known}
 use Rattle.store.specs.Sound as stored
 use Rattle.board.specs.Answering.{answered, answeredAs, judgedBy, refusedWith, requestChecks, respondedWith, responded, scopeOf}
-use Rattle.model.specs.Changes.{Sized}
 use Rattle.model.specs.Commands.{afterCommand, reported, run, runReports, discovered, discoverReports}
 use Rattle.commands.specs.Draft.{blank, taken, extended, exceeded, reportedIn, runReportsIn, selected, ranOf, ranBehind}
 use Rattle.model.specs.Record.{sound, micra, withParameters}
@@ -41,7 +40,7 @@ use Rattle.commands.specs.declared.Scope.{Scope}
 use Rattle.commands.specs.declared.Scope.the-variants.{All, Identity}
 use Rattle.model.proofs.Changed.{read-keeps, values-reported}
 use Rattle.model.proofs.EncodableReports.{Fit, fit-after, encodable-join, encodable-reported}
-use Rattle.model.proofs.Soundness.{sound-parts, id-length}
+use Rattle.model.proofs.Soundness.{Sized, sound-parts, id-length}
 
 -- reads leave the parameters as they were
 reads-keep : (cs : List Command) (p : Parameters) → every isRead cs ≡ true → run p cs ≡ p
@@ -300,9 +299,9 @@ module _ (r : Request) (buffer : List ℕ) (legal : sound (r .board) ≡ true) (
         responds-by (isDiscovery r) refl (ten .0) (eleven .0)
 
 pub answered-outcome :
-    (r : Request) (buffer : List ℕ) → sound (r .board) ≡ true → Sized (r .board .parameters) → length (r .frame .password) ≤ 8 → 256 ≤ length buffer
+    (r : Request) (buffer : List ℕ) → sound (r .board) ≡ true → length (r .frame .password) ≤ 8 → 256 ≤ length buffer
     → answered r buffer ≡ outcomeBy (firstRefusal requestRefusals r) r buffer
 unfolding requestRefusals firstRefusal
-answered-outcome r buffer legal sized short room =
-    by-checks r buffer legal short room sized (firstRefusal requestChecks r) refl
+answered-outcome r buffer legal short room =
+    by-checks r buffer legal short room (sound-parts (r .board) legal .sized) (firstRefusal requestChecks r) refl
     ∙ ap (λ (refusal : Option ℕ). outcomeBy refusal r buffer) (sym (join requestChecks (refusal 12 longResponse ∷ []) r))

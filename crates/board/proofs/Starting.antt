@@ -30,6 +30,7 @@ use Rattle.model.specs.Record.{sound, micra, passwordOf, SetUp, SetsUp, isId, i
 use Rattle.model.specs.declared.Answered.{Answered}
 use Rattle.model.specs.declared.Board.{Board}
 use Rattle.model.specs.declared.Verdict.the-variants.{Accepted, Refused}
+use Rattle.model.proofs.Soundness.{Sized}
 
 drop-replicate : (n m : ℕ) → drop {A = ℕ} n (replicate m 0) ≡ replicate (m - n) 0
 drop-replicate zero m = simp unary-clauses
@@ -129,12 +130,12 @@ module _ (board : Board) where
 
   pub sound-rows :
       isId (board .id) ≡ true → leb (board .size) 8 ≡ true → allAlphanumeric (passwordOf board) ≡ true → isMode (board .mode) ≡ true
-      → entries.sound (board .parameters .schedule) ≡ true
+      → Sized (board .parameters) → entries.sound (board .parameters .schedule) ≡ true
       → sound board
       ≡ (rows.sound (board .parameters .store) && same (valueOf (board .parameters .store) 0x007C) (board .id)
       && same (valueOf (board .parameters .store) 0x00B9) micra)
   unfolding sound
-  sound-rows a b c d e = rw (a, b, c, d, e)
+  sound-rows a b c d sized e = rw (a, b, c, d, sized .store, sized .schedule, e)
 
 -- a password that is short enough is judged by its characters
 pub wrong-characters : (password : List ℕ) → length password ≤ 8 → isPassword password ≡ false → allAlphanumeric password ≡ false

@@ -1,7 +1,6 @@
 -- The tool reads the reports that the board makes of the commands that the tool wrote.
-use mathlib.Core.Path.{_≡_, ap, subst, _∙_}
+use mathlib.Core.Path.{_≡_, ap, subst}
 use lib.ListN.{take}
-use Rattle.framing.specs.Identity.{isPassword}
 use Rattle.model.specs.Step.{Request, call, request, requestOf}
 use Rattle.tool.specs.Request as tool
 use Rattle.claims.specs.Agreement.{ResponseRead, ExchangesAgree}
@@ -9,9 +8,10 @@ use Rattle.claims.proofs.RequestsRead.{PacketSent, packet-sent, frame-r
 use Rattle.claims.proofs.ResponsesRead.{responses-agree}
 
 pub exchanges-agree : ExchangesAgree
-exchanges-agree given answer written size writes e board buffer result after back sized steps responds =
+exchanges-agree given answer written size writes e board buffer result after back steps responds =
     let sent : PacketSent given (take size written) = packet-sent given writes e in
     let asked : request (call board (take size written) buffer) ≡ requestOf board (tool.requestOf given) = ap (requestOf board) (frame-read given sent .1) in
+    let read : ResponseRead (requestOf board (tool.requestOf given)) (take back after) =
     subst (λ (r : Request). ResponseRead r (take back after)) asked
-    (responses-agree (call board (take size written) buffer) result after back sized steps responds
-    (λ d. ap (λ (r : Request). isPassword (r .frame .password)) asked ∙ sent .taken .password))
+    (responses-agree (call board (take size written) buffer) result after back steps responds) in
+    (read .accepted (λ d. sent .taken .password), read)

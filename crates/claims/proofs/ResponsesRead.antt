@@ -86,7 +86,7 @@ sendable r legal short right of-discovery = by-discovery (isDiscovery r) refl ri
 
 pub responses-agree : ResponsesAgree
 unfolding responseRefusals
-responses-agree c result after size sized steps e of-discovery =
+responses-agree c result after size steps e =
     let r : Request = request c in
     let packet : List ℕ = take size after in
     let back : Responded c packet = responded c steps e in
@@ -99,11 +99,12 @@ responses-agree c result after size sized steps e of-discovery =
     let reading : ReadsBack (response r) = reads-written (response r) framed in
     let found : frameOf packet ≡ response r = ap frameOf (back .packet-sent) ∙ reading .frame-back in
     let told : reports (frameOf packet .block) ≡ some (reportsOf r) =
-    ap (λ (f : Frame). reports (f .block)) found ∙ reports-decode (reportsOf r) (reports-encodable r legal sized) in
+    ap (λ (f : Frame). reports (f .block)) found ∙ reports-decode (reportsOf r) (reports-encodable r legal) in
     let passes : packetRefusal packet ≡ none = ap packetRefusal (back .packet-sent) ∙ reading .accepted in
     let formed : firstRefusal responseRefusals (frameOf packet) ≡ none =
     none-first responseRefusals (frameOf packet) (ap (λ (f : Frame). noResponse (f .function)) found, (ap (λ (o : Option (List Report)). not (isSome o)) told, tt)) in
-    let accepted : readRefusal (readCall packet (r .frame .id) (r .frame .password)) ≡ none =
+    let accepted : (isDiscovery r ≡ true → isPassword (r .frame .password) ≡ true) → readRefusal (readCall packet (r .frame .id) (r .frame .password)) ≡ none =
+    λ of-discovery.
     read-accepted (readCall packet (r .frame .id) (r .frame .password))
     (ap not (sizes .0))
     (ap not (sendable r legal (sizes .1) (passed .password) of-discovery))
@@ -112,7 +113,7 @@ responses-agree c result after size sized steps e of-discovery =
     (ap (λ (f : Frame). otherPassword (r .frame .password) (f .password)) found ∙ ap not (same-self (r .frame .password)))
     formed in
     record {
-      accepted = ap (λ (o : Option ℕ). responseAs o (placesOf packet)) accepted;
+      accepted = λ of-discovery. ap (λ (o : Option ℕ). responseAs o (placesOf packet)) (accepted of-discovery);
       reports = told;
       listed = λ i. listingAs (any-accepted packet passes formed i) (Option·getD (told i) []);
     }

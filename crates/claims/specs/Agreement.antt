@@ -12,7 +12,6 @@ use Rattle.framing.specs.Identity.{defaultId, isPassword}
 use Rattle.framing.specs.Packet.{packetRefusal, placesOf}
 use Rattle.block.specs.Command.{isRead}
 use Rattle.block.specs.Encoding.{firstFunction, every}
-use Rattle.model.specs.Changes.{Sized}
 use Rattle.model.specs.Record.{client, accessPoint, passwordOf, sound}
 use Rattle.model.specs.Refusals.{Silent, Responds}
 use Rattle.model.specs.Step.{Request, Call, call, requestOf, request, isDiscovery, decoded, reportsOf, response, Steps}
@@ -52,22 +51,25 @@ RequestsAgree =
 
 -- the tool, asking with the ID and the password of a request, accepts a packet and reads in it what the board reports to the request
 pub record ResponseRead (r : Request) (packet : List ℕ) : Type 0 where
-  pub accepted : responseOf (readCall packet (r .frame .id) (r .frame .password)) ≡ acceptedAt (placesOf packet)
+  -- a discovery (search) alone may bear a password that the tool refuses to expect
+  pub accepted :
+      (isDiscovery r ≡ true → isPassword (r .frame .password) ≡ true)
+      → responseOf (readCall packet (r .frame .id) (r .frame .password)) ≡ acceptedAt (placesOf packet)
   pub reports : read.reportsOf packet ≡ some (reportsOf r)
   -- its listing has a line for each of them
   pub listed : listing packet ≡ header ++ reportLines (reportsOf r)
 
--- whatever the board responds; a discovery (search) alone may bear a password that the tool would not send
+-- whatever the board responds
 abbrev pub ResponsesAgree : Type 0
 ResponsesAgree =
-    (c : Call) (result : Stepped) (after : List ℕ) (size : ℕ) → Sized (c .board .parameters) → Steps c result after → result .answer ≡ Response size
-    → (isDiscovery (request c) ≡ true → isPassword (request c .frame .password) ≡ true)
+    (c : Call) (result : Stepped) (after : List ℕ) (size : ℕ) → Steps c result after → result .answer ≡ Response size
     → ResponseRead (request c) (take size after)
 
--- there and back: a response to what the tool wrote is read as what the board reports to what the tool was given
+-- there and back: the tool accepts a response to what it wrote, and reads what the board reports to what it was given
 abbrev pub ExchangesAgree : Type 0
 ExchangesAgree =
     (given : WriteCall) (answer : Written) (written : List ℕ) (size : ℕ) → Writes given answer written → answer ≡ Length size
-    → (board : Board) (buffer : List ℕ) (result : Stepped) (after : List ℕ) (back : ℕ) → Sized (board .parameters)
+    → (board : Board) (buffer : List ℕ) (result : Stepped) (after : List ℕ) (back : ℕ)
     → Steps (call board (take size written) buffer) result after → result .answer ≡ Response back
-    → ResponseRead (requestOf board (tool.requestOf given)) (take back after)
+    → (responseOf (readCall (take back after) (given .id) (given .password)) ≡ acceptedAt (placesOf (take back after)))
+    × ResponseRead (requestOf board (tool.requestOf given)) (take back after)

@@ -1,3 +1,4 @@
 pub mod Reply
 pub mod Controller
 pub mod Client
+pub mod Exported

@@ -1,55 +1,52 @@
 -- Demand 2: the statements of specs/Changes.antt hold.
 use Prim.Native.Nat.{ℕ, _-_}
-use mathlib.Core.Bool.{Bool, true, false, cond, not, _&&_, _||_}
+use mathlib.Core.Bool.{Bool, true, false, cond, not, _&&_, and-false, and-true}
 use mathlib.Core.List.{List, [], _∷_, _++_, append-assoc}
-use mathlib.Core.Option.{Option, none, some}
-use mathlib.Core.Path.{_≡_, refl, sym, ap, _∙_}
+use mathlib.Core.Option.{Option, none, some, Option·getD}
+use mathlib.Core.Path.{_≡_, refl, sym, ap, subst, _∙_}
 use borrow.Author.Tests.{eq-eqb, eqb-true, not-true, not-false}
 use lib.Dec.{leb, eqb}
-use lib.ListN.{length, drop, replicate}
+use lib.ListN.{length, replicate}
 use lib.Seq.{take-at}
 use Rattle.octets.specs.Octets.{same}
 use Rattle.octets.proofs.Booleans.{both-true}
+use Rattle.octets.proofs.Same.{same-equal}
 use Rattle.framing.specs.Identity.{allAlphanumeric, defaultId}
+use Rattle.framing.specs.Packet.{frameOf}
 use Rattle.framing.specs.Refusal.{firstRefusal}
 use Rattle.framing.proofs.Refusals.{not-refused}
-use Rattle.block.specs.Command.{Command, commandNumber, Report, held}
+use Rattle.block.specs.Command.{Command, commandNumber, Report, held, unknown}
 use Rattle.block.specs.Encoding.{every}
-use Rattle.block.specs.Reading.{isSome}
 use Rattle.store.specs.Laws.{Operation, Write, Raise, Lower, Measure, newValue, after}
-use Rattle.store.specs.Layout.{roomOf, valueOf, setAt, fromRoom, sizeOf}
-use Rattle.store.specs.Operations.{measurable, affected}
-use Rattle.store.specs.Rows.{isIdentity, rows as table, indexIn, indexOf, known, rowOf}
+use Rattle.store.specs.Layout.{roomOf, valueOf, sizeOf}
+use Rattle.store.specs.Operations.{measurable, affected, stored as storedIn}
+use Rattle.store.specs.Rows.{isIdentity, rows as table, indexIn, allows, known, rowOf}
 use Rattle.store.specs.Laws as laws
 use Rattle.store.specs.Sound as rows
 use Rattle.store.specs.declared.Answer.the-variants.{Value, Unknown, Silence}
-use Rattle.store.specs.declared.Answer.{Answer}
 use Rattle.store.specs.declared.Store.{Store}
-use Rattle.store.proofs.Laws.{size-kept, others-kept, identity-kept, read-back, sound-kept, start-sized, start-sound, start-identity}
-use Rattle.schedule.specs.Days.{isDay, isPeriod, daysOf, contains}
+use Rattle.store.proofs.Laws.{size-kept, others-kept, identity-kept, read-back, sound-kept, held-legal, start-sized, start-sound, start-identity}
+use Rattle.schedule.specs.Days.{isDay, isPeriod, daysOf, contains, isEmpty, isWritable, firstDay}
 use Rattle.schedule.specs.Entries as entries
 use Rattle.schedule.specs.Entries.{entryAt}
 use Rattle.schedule.specs.Laws.{isFor}
-use Rattle.schedule.specs.Operations.{scheduleNumber, dayIn, periodIn, entryIn, answered, stores, written, reportOf}
+use Rattle.schedule.specs.Operations.{scheduleNumber, dayIn, periodIn, entryIn, reads, writes, askedBy, addressedBy, answered, stores, written}
 use Rattle.schedule.specs.declared.Answer.{Answer as Answered}
-use Rattle.schedule.specs.declared.Entry.{Entry}
+use Rattle.schedule.specs.declared.Answer.the-variants as entry
 use Rattle.schedule.specs.declared.Schedule.{Schedule}
 use Rattle.schedule.proofs.Laws as schedule
-use Rattle.model.specs.Changes.{operationOf, mayChange, noneChanges, storesEntry, noneStores, SameIdentity, Sized, Legal, ValuesReported, OthersLeft, EntriesReadBack, CommandRuns, PacketsChange, MeasurementsChange, SetUpsLegal}
-use Rattle.model.specs.Commands.{isSchedule, isWrite, afterRow, afterEntry, afterCommand, rowReport, entryReport, reported, run, runReports, discoverReports}
+use Rattle.model.specs.Changes.{Asks, mayChange, noneChanges, legalFields, isForEntry, storesEntry, noneStores, asksEntry, writesEntry, entryOn, SameIdentity, ValuesReported, OthersLeft, EntriesReadBack, CarriedOut, CommandRuns, PacketsChange, MeasurementsChange, SetUpsLegal}
+use Rattle.model.specs.Commands.{isSchedule, isWrite, afterEntry, afterCommand, rowReport, entryReport, reported, run, runReports, discoverReports}
 use Rattle.model.specs.Measurement.{MeasureCall, measureRefusals, measureRefusal, measuredBy, measuredBoard}
 use Rattle.model.specs.Record.{isId, micra, parametersOf, withParameters, SetUp, setUpRefusals, setUpRefusal, startBoard, unset, boardOf, setUpBoard, sound}
-use Rattle.model.specs.Step.{Call, request, isDiscovery, commandsOf, stepRefusal, step}
+use Rattle.model.specs.Step.{Call, request, unsound, isDiscovery, commandsOf, reportsOf, stepRefusal, step}
 use Rattle.model.specs.declared.Board.{Board}
 use Rattle.model.specs.declared.Parameters.{Parameters}
-use Rattle.model.proofs.Soundness.{SoundParts, sound-parts, parts-sound}
-use Rattle.model.proofs.StepRefusals.{answered-board, on-step}
+use Rattle.model.proofs.RowOperations.{operationOf, operates, done, same-room, carried-out}
+use Rattle.model.proofs.Soundness.{Sized, SoundParts, sound-parts, parts-sound}
+use Rattle.model.proofs.StepRefusals.{step-refusal-by, step-refused, passed-step, answered-board, on-step}
 
 -- a command of a row does its operation
-abbrev done : Option Operation → Store → ℕ → Store
-done none store n = store
-done (some operation) store n = after operation store n
-
 command-done :
     (p : Parameters) (c : Command)
     → afterCommand p c
@@ -77,14 +74,14 @@ entries-written : (p : Parameters) (c : Command) → isSchedule c ≡ true → i
 unfolding afterCommand
 entries-written p c named writes = rw (named, writes)
 
+either-way : {A : Type 0} (b : Bool) (x : A) → cond b x x ≡ x
+either-way true x = refl
+either-way false x = refl
+
 -- a read leaves the parameters as they were
 pub read-keeps : (p : Parameters) (c : Command) → c .function ≡ 1 → afterCommand p c ≡ p
 unfolding afterCommand
-read-keeps p c e = rw e (by-number (isSchedule c))
-  where
-    by-number : (is-schedule : Bool) → cond is-schedule p p ≡ p
-    by-number true = refl
-    by-number false = refl
+read-keeps p c e = rw e (either-way (isSchedule c) p)
 
 run-join : (before behind : List Command) (p : Parameters) → run p (before ++ behind) ≡ run (run p before) behind
 unfolding run
@@ -112,6 +109,35 @@ known-row n h = by-number (eqb n scheduleNumber) refl
     by-number true e = let named : known n ≡ false = ap known (eqb-true n scheduleNumber e) ∙ no-row in cc
     by-number false e = refl
 
+-- of the schedule, by its answer
+pub entry-reported : (p : Parameters) (c : Command) → isSchedule c ≡ true → reported p c ≡ entryReport (answered (c .function) (c .value)) (p .schedule) c
+unfolding reported
+entry-reported p c named = rw named
+
+module _ (p : Parameters) (c : Command) (named : isSchedule c ≡ true) where
+  told : (answer : Answered) → answered (c .function) (c .value) ≡ answer → reported p c ≡ entryReport answer (p .schedule) c
+  told answer e = entry-reported p c named ∙ ap (λ (a : Answered). entryReport a (p .schedule) c) e
+
+  asked-told : asksEntry c ≡ true → reported p c ≡ entryOn (dayIn (c .value)) p c ∷ []
+  asked-told h =
+      let both = both-true (eqb (c .function) 1) (reads (c .value)) h in
+      told (entry.Entry (dayIn (c .value)) (periodIn (c .value))) (rw (both .0, both .1))
+
+  written-told : writesEntry c ≡ true → reported p c ≡ entryOn (firstDay (dayIn (c .value))) p c ∷ []
+  written-told h =
+      let both = both-true (eqb (c .function) 3) (writes (c .value)) h in
+      told (entry.Entry (firstDay (dayIn (c .value))) (periodIn (c .value))) (rw (eqb-true (c .function) 3 (both .0), both .1))
+
+  none-told : eqb (c .function) 2 ≡ false → asksEntry c ≡ false → writesEntry c ≡ false → reported p c ≡ unknown (c .page) (c .low) ∷ []
+  none-told two asks writing = told entry.Unknown (rw two (by-function (eqb (c .function) 1) (eqb (c .function) 3) asks writing))
+    where
+      by-function :
+          (one three : Bool) → (one && reads (c .value)) ≡ false → (three && writes (c .value)) ≡ false
+          → cond one (askedBy (c .value)) (cond three (addressedBy (c .value)) entry.Unknown) ≡ entry.Unknown
+      by-function true three a w = rw a
+      by-function false true a w = rw w
+      by-function false false a w = refl
+
 pub values-reported : ValuesReported
 unfolding reported
 values-reported p c =
@@ -121,7 +147,9 @@ values-reported p c =
     record {
       silence = λ two. by-number two (isSchedule c);
       value = λ other row. λ i. report (known-row (commandNumber c) row i) (other i) (row i);
-      entry = λ h. ap (λ (is-schedule : Bool). report is-schedule (eqb (c .function) 2) rows) h;
+      asked = asked-told p c;
+      written = written-told p c;
+      no-entry = none-told p c;
       mark = λ other row h. λ i. report (h i) (other i) (row i);
     }
   where
@@ -135,9 +163,6 @@ values-reported p c =
 
 same-identity : (board : Board) (p : Parameters) → SameIdentity board (withParameters board p)
 same-identity board p = record { id = refl; password = refl; size = refl; mode = refl }
-
-same-room : (left right : Store) (n : ℕ) → roomOf left n ≡ roomOf right n → valueOf left n ≡ valueOf right n
-same-room left right n e = ap (fromRoom (setAt (indexOf n))) e
 
 -- what a row's operation and a write of the schedule keep, a command keeps
 pub on-command :
@@ -188,9 +213,32 @@ run-others n cs p h sized =
         on-command (λ (r : Parameters). roomOf (r .store) n ≡ roomOf (p .store) n) q c so-far
         (λ operation e.
         let other : affected (commandNumber c) n ≡ false =
-        ap (λ (o : Option Operation). isSome o && affected (commandNumber c) n) (sym e) ∙ not-true (mayChange n c) unaffected in
+        ap (λ (b : Bool). b && affected (commandNumber c) n) (sym (operates (c .function) (c .value) operation e)) ∙ not-true (mayChange n c) unaffected in
         others-kept operation (q .store) (commandNumber c) n (size .store) other ∙ so-far)
         (λ named writes. so-far)
+
+-- days that have one are some
+has-day : (days : List ℕ) (day : ℕ) → contains days day ≡ true → not (isEmpty days) ≡ true
+unfolding contains
+has-day [] day h = cc
+has-day (first ∷ rest) day h = refl
+
+-- a day among those written may be written, and an entry's period is one
+for-entry :
+    (six writable is-period legal on-day at-period : Bool) → (on-day ≡ true → writable ≡ true) → (at-period ≡ true → is-period ≡ true)
+    → (six && writable && is-period && legal && (on-day && at-period)) ≡ (six && on-day && at-period && legal)
+for-entry false writable is-period legal on-day at-period w p = refl
+for-entry true writable is-period legal false at-period w p = and-false (writable && is-period && legal)
+for-entry true writable is-period legal true false w p = and-false (writable && is-period && legal)
+for-entry true writable is-period legal true true w p = rw (w refl, p refl, and-true legal)
+
+-- the values that store this entry
+exactly :
+    (day period : ℕ) (value : List ℕ) → isPeriod period ≡ true → (stores value && isFor value day period) ≡ isForEntry day period value
+exactly day period value is-period =
+    for-entry (eqb (length value) 6) (isWritable (dayIn value)) (isPeriod (periodIn value)) (legalFields value)
+    (contains (daysOf (dayIn value)) day) (eqb (periodIn value) period)
+    (has-day (daysOf (dayIn value)) day) (λ e. ap isPeriod (eqb-true (periodIn value) period e) ∙ is-period)
 
 module _ (day period : ℕ) (is-day : isDay day ≡ true) (is-period : isPeriod period ≡ true) where
   run-entries :
@@ -208,7 +256,7 @@ module _ (day period : ℕ) (is-day : isDay day ≡ true) (is-period : isPeriod 
           on-command (λ (r : Parameters). entryAt (r .schedule) day period ≡ entryAt (p .schedule) day period) q c so-far (λ operation e. so-far)
           (λ named writes.
           let other : (stores (c .value) && isFor (c .value) day period) ≡ false =
-          (λ i. sym named i && sym writes i && (stores (c .value) && isFor (c .value) day period)) ∙ not-true (storesEntry day period c) unaffected in
+          (λ i. sym named i && sym writes i && exactly day period (c .value) is-period i) ∙ not-true (storesEntry day period c) unaffected in
           schedule.write-exact (q .schedule) (c .value) day period (size .schedule) is-day is-period ∙ rw other so-far)
 
   entry-stored :
@@ -218,16 +266,21 @@ module _ (day period : ℕ) (is-day : isDay day ≡ true) (is-period : isPeriod 
       let named = both-true (isSchedule c) (isWrite c) (both .0) in
       ap (λ (s : Schedule). entryAt s day period) (entries-written p c (named .0) (named .1))
       ∙ schedule.write-exact (p .schedule) (c .value) day period (sized .schedule) is-day is-period
-      ∙ rw (both .1)
+      ∙ rw (exactly day period (c .value) is-period ∙ both .1)
 
 pub entries-read-back : EntriesReadBack
 unfolding run
-entries-read-back p write read day sized written-number writes kept on-day read-number reads asked =
-    let back = schedule.read-back (p .schedule) (write .value) day (sized .schedule) kept on-day in
+entries-read-back p write read day period sized is-period h read-number reads asked =
+    let both = both-true (isSchedule write && isWrite write) _ h in
+    let named = both-true (isSchedule write) (isWrite write) (both .0) in
+    let kept = both-true (stores (write .value)) (isFor (write .value) day period) (exactly day period (write .value) is-period ∙ both .1) in
+    let at = both-true (contains (daysOf (dayIn (write .value))) day) (eqb (periodIn (write .value)) period) (kept .1) in
+    let same : periodIn (write .value) ≡ period = eqb-true _ _ (at .1) in
+    let back = schedule.read-back (p .schedule) (write .value) day sized (kept .0) (at .0) in
     let left : run p (write ∷ read ∷ []) .schedule ≡ written (p .schedule) (write .value) =
-    ap (λ (q : Parameters). q .schedule) (read-keeps (afterCommand p write) read reads) ∙ entries-written p write written-number writes in
-    values-reported (run p (write ∷ read ∷ [])) read .entry read-number
-    ∙ (λ i. entryReport (answered (reads i) (asked i)) (left i) read)
+    ap (λ (q : Parameters). q .schedule) (read-keeps (afterCommand p write) read reads) ∙ entries-written p write (named .0) (named .1) in
+    entry-reported (run p (write ∷ read ∷ [])) read read-number
+    ∙ (λ i. entryReport (answered (reads i) ((asked ∙ ap (λ (x : ℕ). day ∷ x ∷ []) (sym same)) i)) (left i) read)
     ∙ ap (λ (a : Answered). entryReport a (written (p .schedule) (write .value)) read) (back .0)
     ∙ ap (λ (v : List ℕ). held (read .page) (read .low) v ∷ []) (back .1)
 
@@ -277,41 +330,49 @@ run-legal {id} cs p = run-keeps (LegalParameters id) (λ (c : Command). true) (�
 parameters-of : {board : Board} → SoundParts board → LegalParameters (board .id) (board .parameters)
 parameters-of parts = record { held = parts .held; scheduled = parts .scheduled; own-id = parts .own-id; unit-type = parts .unit-type }
 
-legal-with : (board : Board) (p : Parameters) → SoundParts board → Sized p × LegalParameters (board .id) p → Legal (withParameters board p)
-legal-with board p parts legal =
-    record {
-      is-sound =
-          parts-sound (withParameters board p)
-          (record {
-            id = parts .id;
-            size = parts .size;
-            password = parts .password;
-            mode = parts .mode;
-            held = legal .1 .held;
-            scheduled = legal .1 .scheduled;
-            own-id = legal .1 .own-id;
-            unit-type = legal .1 .unit-type;
-          });
+sound-with : (board : Board) (p : Parameters) → SoundParts board → Sized p × LegalParameters (board .id) p → sound (withParameters board p) ≡ true
+sound-with board p parts legal =
+    parts-sound (withParameters board p)
+    (record {
+      id = parts .id;
+      size = parts .size;
+      password = parts .password;
+      mode = parts .mode;
       sized = legal .0;
-    }
+      held = legal .1 .held;
+      scheduled = legal .1 .scheduled;
+      own-id = legal .1 .own-id;
+      unit-type = legal .1 .unit-type;
+    })
 
 run-sized : (cs : List Command) (p : Parameters) → Sized p → Sized (run p cs)
 run-sized cs p sized = run-keeps Sized (λ (c : Command). true) (λ q c h size so-far. sized-after q c size) cs p (every-command cs) sized sized .0
 
--- what a row's operation stores is for a row
-stored-row : (operation : Operation) (store : Store) (n : ℕ) (value : List ℕ) → newValue operation store n ≡ some value → eqb n scheduleNumber ≡ false
+-- the schedule's number has no row to operate on
+schedule-row : (operation : Operation) (store : Store) (n : ℕ) → eqb n scheduleNumber ≡ true → after operation store n ≡ store
 unfolding table indexIn
-stored-row operation store n value e = by-number (eqb n scheduleNumber) refl
+schedule-row operation store n h = ap (storedIn store n) (ap (newValue operation store) (eqb-true n scheduleNumber h) ∙ nothing operation)
   where
-    none-stored : (o : Operation) → newValue o store scheduleNumber ≡ none
-    none-stored (Write v) = refl
-    none-stored Raise = refl
-    none-stored Lower = refl
-    none-stored (Measure v) = refl
+    nothing : (o : Operation) → newValue o store scheduleNumber ≡ none
+    nothing (Write v) = refl
+    nothing Raise = refl
+    nothing Lower = refl
+    nothing (Measure v) = refl
 
-    by-number : (is-schedule : Bool) → eqb n scheduleNumber ≡ is-schedule → is-schedule ≡ false
-    by-number true h = let nothing : newValue operation store n ≡ none = ap (newValue operation store) (eqb-true n scheduleNumber h) ∙ none-stored operation in cc
-    by-number false h = refl
+row-done :
+    (p : Parameters) (c : Command) → afterCommand p c .store ≡ done (operationOf c) (p .store) (commandNumber c)
+row-done p c = ap (λ (q : Parameters). q .store) (command-done p c) ∙ by-number (isSchedule c) refl
+  where
+    untouched : isSchedule c ≡ true → (o : Option Operation) → p .store ≡ done o (p .store) (commandNumber c)
+    untouched named none = refl
+    untouched named (some operation) = sym (schedule-row operation (p .store) (commandNumber c) named)
+
+    by-number :
+        (is-schedule : Bool) → isSchedule c ≡ is-schedule
+        → cond is-schedule (parametersOf (p .store) (afterEntry (p .schedule) c)) (parametersOf (done (operationOf c) (p .store) (commandNumber c)) (p .schedule)) .store
+        ≡ done (operationOf c) (p .store) (commandNumber c)
+    by-number true named = untouched named (operationOf c)
+    by-number false named = refl
 
 module _ (p : Parameters) (before : List Command) (command : Command) (behind : List Command) (sized : Sized p) where
   sized-before : Sized (run p before)
@@ -322,22 +383,15 @@ module _ (p : Parameters) (before : List Command) (command : Command) (behind : 
   unfolding run
   run-behind = run-join before (command ∷ behind) p
 
-  held-after :
-      (operation : Operation) (value : List ℕ) → operationOf command ≡ some operation
-      → newValue operation (run p before .store) (commandNumber command) ≡ some value
-      → noneChanges (commandNumber command) behind ≡ true → valueOf (run p (before ++ command ∷ behind) .store) (commandNumber command) ≡ value
-  held-after operation value e stored h =
+  row-after :
+      noneChanges (commandNumber command) behind ≡ true
+      → CarriedOut command (commandNumber command) (run p before .store) (run p (before ++ command ∷ behind) .store)
+  row-after h =
       let n : ℕ = commandNumber command in
-      let row : isSchedule command ≡ false = stored-row operation (run p before .store) n value stored in
-      let at-command : afterCommand (run p before) command .store ≡ after operation (run p before .store) n =
-      ap (λ (q : Parameters). q .store) (command-done (run p before) command)
-      ∙ (λ i.
-      cond (row i) (parametersOf (run p before .store) (afterEntry (run p before .schedule) command))
-      (parametersOf (done (e i) (run p before .store) n) (run p before .schedule)) .store) in
-      ap (λ (q : Parameters). valueOf (q .store) n) run-behind
-      ∙ same-room _ _ n (run-others n behind (afterCommand (run p before) command) h (sized-after (run p before) command sized-before))
-      ∙ ap (λ (s : Store). valueOf s n) at-command
-      ∙ read-back operation (run p before .store) n value (sized-before .store) stored
+      carried-out command n (run p before .store) (run p (before ++ command ∷ behind) .store) (sized-before .store)
+      (ap (λ (q : Parameters). roomOf (q .store) n) run-behind
+      ∙ run-others n behind (afterCommand (run p before) command) h (sized-after (run p before) command sized-before)
+      ∙ ap (λ (s : Store). roomOf s n) (row-done (run p before) command))
 
   entry-after :
       (day period : ℕ) → isDay day ≡ true → isPeriod period ≡ true → storesEntry day period command ≡ true
@@ -347,20 +401,52 @@ module _ (p : Parameters) (before : List Command) (command : Command) (behind : 
       ∙ run-entries day period is-day is-period behind (afterCommand (run p before) command) h (sized-after (run p before) command sized-before)
       ∙ entry-stored day period is-day is-period (run p before) command sized-before stored
 
+-- the model's reading of a packet's commands
+asked : (c : Call) (cs : List Command) → Asks c cs → commandsOf (request c) ≡ cs
+asked c cs e = ap (λ (o : Option (List Command)). Option·getD o []) e
+
+no-discovery : (c : Call) → (c .board .mode ≡ 1 → frameOf (c .packet) .id ≡ defaultId → ⊥) → isDiscovery (request c) ≡ false
+no-discovery c other = by-tests (eqb (c .board .mode) 1) (same (frameOf (c .packet) .id) defaultId) refl refl
+  where
+    by-tests : (mode id : Bool) → eqb (c .board .mode) 1 ≡ mode → same (frameOf (c .packet) .id) defaultId ≡ id → (mode && id) ≡ false
+    by-tests false id e h = refl
+    by-tests true false e h = refl
+    by-tests true true e h = absurd (other (eqb-true _ 1 e) (same-equal _ _ h))
+
+-- no commands report nothing, in a discovery or not
+no-reports : (c : Call) → Asks c [] → reportsOf (request c) ≡ []
+unfolding runReports discoverReports
+no-reports c e =
+    ap (λ (cs : List Command). cond (isDiscovery (request c)) (discoverReports (c .board .id) cs) (runReports (c .board .parameters) cs)) (asked c [] e)
+    ∙ either-way (isDiscovery (request c)) []
+
+-- what holds of the record and, if it is sound, of it with the parameters that the commands leave
+on-sound :
+    (P : Board → Type 0) (c : Call) → P (c .board)
+    → (SoundParts (c .board) → P (withParameters (c .board) (run (c .board .parameters) (commandsOf (request c))))) → P (step c .board)
+on-sound P c unchanged changed = by-record (unsound c) refl
+  where
+    by-record : (is-unsound : Bool) → unsound c ≡ is-unsound → P (step c .board)
+    by-record true e = rw (step-refused c (step-refusal-by c e refl refl refl)) unchanged
+    by-record false e = on-step P c unchanged (changed (sound-parts (c .board) (not-false _ e)))
+
 runs :
-    (c : Call) → Sized (c .board .parameters) → stepRefusal c ≡ none → isDiscovery (request c) ≡ false
+    (c : Call) → stepRefusal c ≡ none → (c .board .mode ≡ 1 → frameOf (c .packet) .id ≡ defaultId → ⊥)
     → (before : List Command) (command : Command) (behind : List Command)
-    → commandsOf (request c) ≡ before ++ command ∷ behind → CommandRuns c before command behind
-runs c sized accepted other before command behind e =
+    → Asks c (before ++ command ∷ behind) → CommandRuns c before command behind
+runs c accepted no-search before command behind read =
     let p : Parameters = c .board .parameters in
+    let sized : Sized p = sound-parts (c .board) (not-false _ (passed-step c accepted .board)) .sized in
+    let other : isDiscovery (request c) ≡ false = no-discovery c no-search in
+    let e : commandsOf (request c) ≡ before ++ command ∷ behind = asked c _ read in
     let left : step c .board .parameters ≡ run p (before ++ command ∷ behind) =
     ap (λ (b : Board). b .parameters)
     (answered-board c accepted
     ∙ (λ i. cond (other i) (c .board) (withParameters (c .board) (run p (e i))))) in
     record {
-      stored = λ operation value done-by stored h.
-          ap (λ (q : Parameters). valueOf (q .store) (commandNumber command)) left
-          ∙ held-after p before command behind sized operation value done-by stored h;
+      carried = λ h.
+          subst (λ (q : Parameters). CarriedOut command (commandNumber command) (run p before .store) (q .store)) (sym left)
+          (row-after p before command behind sized h);
       stored-entry = λ day period is-day is-period stored h.
           ap (λ (q : Parameters). entryAt (q .schedule) day period) left
           ∙ entry-after p before command behind sized day period is-day is-period stored h;
@@ -370,44 +456,51 @@ runs c sized accepted other before command behind e =
           ∙ reports-join before command behind p;
     }
 
+step-sound : (c : Call) → sound (c .board) ≡ true → sound (step c .board) ≡ true
+step-sound c legal =
+    on-sound (λ (b : Board). sound b ≡ true) c legal
+    (λ parts. sound-with (c .board) _ parts (run-legal (commandsOf (request c)) (c .board .parameters) (parts .sized) (parameters-of parts)))
+
 pub packets-change : PacketsChange
-packets-change c sized =
+packets-change c =
     record {
       identity = on-step (SameIdentity (c .board)) c (same-identity (c .board) (c .board .parameters)) (same-identity (c .board) _);
-      others = λ n h.
-          on-step (λ (b : Board). roomOf (b .parameters .store) n ≡ roomOf (c .board .parameters .store) n) c refl
-          (run-others n (commandsOf (request c)) (c .board .parameters) h sized);
-      entries = λ day period is-day is-period h.
-          on-step (λ (b : Board). entryAt (b .parameters .schedule) day period ≡ entryAt (c .board .parameters .schedule) day period) c refl
-          (run-entries day period is-day is-period (commandsOf (request c)) (c .board .parameters) h sized);
-      runs = runs c sized;
-      legal = λ legal.
-          let parts : SoundParts (c .board) = sound-parts (c .board) (legal .is-sound) in
-          on-step Legal c legal (legal-with (c .board) _ parts (run-legal (commandsOf (request c)) (c .board .parameters) sized (parameters-of parts)));
+      others = λ cs e n h.
+          on-sound (λ (b : Board). roomOf (b .parameters .store) n ≡ roomOf (c .board .parameters .store) n) c refl
+          (λ parts. run-others n (commandsOf (request c)) (c .board .parameters) (ap (noneChanges n) (asked c cs e) ∙ h) (parts .sized));
+      entries = λ cs e day period is-day is-period h.
+          on-sound (λ (b : Board). entryAt (b .parameters .schedule) day period ≡ entryAt (c .board .parameters .schedule) day period) c refl
+          (λ parts. run-entries day period is-day is-period (commandsOf (request c)) (c .board .parameters) (ap (noneStores day period) (asked c cs e) ∙ h) (parts .sized));
+      silent = no-reports c;
+      runs = runs c;
+      legal = step-sound c;
+      members = λ h n row. held-legal (step c .board .parameters .store) n (sound-parts (step c .board) (step-sound c h) .held) row;
     }
 
 on-measured :
-    (P : Board → Type 0) (c : MeasureCall) → P (c .board) → P (withParameters (c .board) (parametersOf (after (Measure (c .value)) (c .board .parameters .store) (c .number)) (c .board .parameters .schedule)))
+    (P : Board → Type 0) (c : MeasureCall) → P (c .board)
+    → (SoundParts (c .board) → P (withParameters (c .board) (parametersOf (after (Measure (c .value)) (c .board .parameters .store) (c .number)) (c .board .parameters .schedule))))
     → P (measuredBoard c)
-unfolding measuredBoard
-on-measured P c unchanged changed = by-refusal (measureRefusal c)
+unfolding measuredBoard measureRefusal measureRefusals
+on-measured P c unchanged changed = by-refusal (measureRefusal c) refl
   where
-    by-refusal : (o : Option ℕ) → P (measuredBy o c)
-    by-refusal none = changed
-    by-refusal (some number) = unchanged
+    by-refusal : (o : Option ℕ) → measureRefusal c ≡ o → P (measuredBy o c)
+    by-refusal none e = changed (sound-parts (c .board) (not-false _ (not-refused _ _ c e .0)))
+    by-refusal (some number) e = unchanged
 
 measurement-accepted :
-    (c : MeasureCall) → sound (c .board) ≡ true → measurable (c .number) ≡ true → length (c .value) ≡ sizeOf (rowOf (c .number) .set)
-    → measureRefusal c ≡ none
+    (c : MeasureCall) → sound (c .board) ≡ true → allows (c .number) 1 ≡ true → allows (c .number) 2 ≡ false
+    → eqb (c .number) 0x007C ≡ false → eqb (c .number) 0x00B9 ≡ false → length (c .value) ≡ sizeOf (rowOf (c .number) .set) → measureRefusal c ≡ none
 unfolding measureRefusal measureRefusals firstRefusal
-measurement-accepted c legal row size = rw (legal, row, eq-eqb _ _ size)
+measurement-accepted c legal row read-only not-id not-type size = rw (legal, row, read-only, not-id, not-type, eq-eqb _ _ size)
 
-measured-value : (c : MeasureCall) → Sized (c .board .parameters) → measureRefusal c ≡ none → valueOf (measuredBoard c .parameters .store) (c .number) ≡ c .value
+measured-value : (c : MeasureCall) → measureRefusal c ≡ none → valueOf (measuredBoard c .parameters .store) (c .number) ≡ c .value
 unfolding measureRefusal measureRefusals measuredBoard
-measured-value c sized e =
+measured-value c e =
     let seventy = not-refused _ _ c e in
     let thirty = not-refused _ _ c (seventy .1) in
     let thirty-one = not-refused _ _ c (thirty .1) in
+    let sized : Sized (c .board .parameters) = sound-parts (c .board) (not-false _ (seventy .0)) .sized in
     let row : measurable (c .number) ≡ true = not-false _ (thirty .0) in
     let size : eqb (length (c .value)) (sizeOf (rowOf (c .number) .set)) ≡ true = not-false _ (thirty-one .0) in
     let stored : newValue (Measure (c .value)) (c .board .parameters .store) (c .number) ≡ some (c .value) = rw (row, size) in
@@ -415,25 +508,25 @@ measured-value c sized e =
     ∙ read-back (Measure (c .value)) (c .board .parameters .store) (c .number) (c .value) (sized .store) stored
 
 pub measurements-change : MeasurementsChange
-measurements-change c sized =
+measurements-change c =
     record {
-      identity = on-measured (SameIdentity (c .board)) c (same-identity (c .board) (c .board .parameters)) (same-identity (c .board) _);
+      identity = on-measured (SameIdentity (c .board)) c (same-identity (c .board) (c .board .parameters)) (λ parts. same-identity (c .board) _);
       accepted = measurement-accepted c;
-      stored = measured-value c sized;
+      stored = measured-value c;
       others = λ n h.
           on-measured (λ (b : Board). roomOf (b .parameters .store) n ≡ roomOf (c .board .parameters .store) n) c refl
-          (others-kept (Measure (c .value)) (c .board .parameters .store) (c .number) n (sized .store) h);
-      entries = on-measured (λ (b : Board). b .parameters .schedule ≡ c .board .parameters .schedule) c refl refl;
+          (λ parts. others-kept (Measure (c .value)) (c .board .parameters .store) (c .number) n (parts .sized .store) h);
+      entries = on-measured (λ (b : Board). b .parameters .schedule ≡ c .board .parameters .schedule) c refl (λ parts. refl);
       legal = λ legal.
-          let parts : SoundParts (c .board) = sound-parts (c .board) (legal .is-sound) in
-          on-measured Legal c legal
-          (legal-with (c .board) _ parts (
-            record { store = size-kept (Measure (c .value)) (c .board .parameters .store) (c .number) (sized .store); schedule = sized .schedule },
-            operation-legal (Measure (c .value)) (c .board .parameters) (c .number) sized (parameters-of parts),
+          on-measured (λ (b : Board). sound b ≡ true) c legal
+          (λ parts.
+          sound-with (c .board) _ parts (
+            record { store = size-kept (Measure (c .value)) (c .board .parameters .store) (c .number) (parts .sized .store); schedule = parts .sized .schedule },
+            operation-legal (Measure (c .value)) (c .board .parameters) (c .number) (parts .sized) (parameters-of parts),
           ));
     }
 
-started : (given : SetUp) → setUpRefusal given ≡ none → Legal (startBoard given)
+started : (given : SetUp) → setUpRefusal given ≡ none → sound (startBoard given) ≡ true
 unfolding setUpRefusal setUpRefusals
 started given e =
     let twenty = not-refused _ _ given e in
@@ -443,21 +536,18 @@ started given e =
     let id-size : length (given .id) ≡ 16 = eqb-true _ _ (both-true (eqb (length (given .id)) 16) _ id .0) in
     let password : (leb (length (given .password)) 8 ≡ true) × (allAlphanumeric (given .password) ≡ true) =
     both-true (leb (length (given .password)) 8) _ (not-false _ (twenty-one .0)) in
-    record {
-      is-sound =
-          parts-sound (startBoard given)
-          (record {
-            id = id;
-            size = password .0;
-            password = rw (take-at (given .password) (replicate (8 - length (given .password)) 0) (length (given .password)) refl) (password .1);
-            mode = not-false _ (twenty-two .0);
-            held = start-sound (given .id) id-size;
-            scheduled = schedule.start-sound;
-            own-id = start-identity (given .id) id-size .0;
-            unit-type = start-identity (given .id) id-size .1;
-          });
+    parts-sound (startBoard given)
+    (record {
+      id = id;
+      size = password .0;
+      password = rw (take-at (given .password) (replicate (8 - length (given .password)) 0) (length (given .password)) refl) (password .1);
+      mode = not-false _ (twenty-two .0);
       sized = record { store = start-sized (given .id) id-size; schedule = schedule.start-sized };
-    }
+      held = start-sound (given .id) id-size;
+      scheduled = schedule.start-sound;
+      own-id = start-identity (given .id) id-size .0;
+      unit-type = start-identity (given .id) id-size .1;
+    })
 
 unset-accepted : setUpRefusal unset ≡ none
 unfolding setUpRefusal setUpRefusals firstRefusal same defaultId allAlphanumeric
@@ -467,6 +557,6 @@ pub set-ups-legal : SetUpsLegal
 unfolding setUpBoard
 set-ups-legal given = by-refusal (setUpRefusal given) refl
   where
-    by-refusal : (o : Option ℕ) → setUpRefusal given ≡ o → Legal (boardOf o given)
+    by-refusal : (o : Option ℕ) → setUpRefusal given ≡ o → sound (boardOf o given) ≡ true
     by-refusal none e = started given e
     by-refusal (some number) e = started unset unset-accepted

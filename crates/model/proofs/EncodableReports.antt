@@ -20,13 +20,13 @@ use Rattle.schedule.specs.Operations.{answered, reportOf}
 use Rattle.schedule.specs.declared.Answer.{Answer as Answered}
 use Rattle.schedule.specs.declared.Answer.the-variants as answer
 use Rattle.schedule.specs.declared.Schedule.{Schedule}
-use Rattle.model.specs.Changes.{ReportsHeld, Sized}
+use Rattle.model.specs.Changes.{ReportsHeld}
 use Rattle.model.specs.Commands.{isSchedule, afterCommand, entryReport, reported, runReports, discovered, discoverReports}
 use Rattle.model.specs.Record.{micra, sound}
 use Rattle.model.specs.Step.{Request, isDiscovery, decoded, commandsOf, reportsOf}
 use Rattle.model.specs.declared.Parameters.{Parameters}
-use Rattle.model.proofs.Changed.{values-reported, on-command, sized-after}
-use Rattle.model.proofs.Soundness.{sound-parts, id-length}
+use Rattle.model.proofs.Changed.{entry-reported, values-reported, on-command, sized-after}
+use Rattle.model.proofs.Soundness.{Sized, SoundParts, sound-parts, id-length}
 
 abbrev pub allEncodable : List Report → Type 0
 allEncodable reports = every encodableReport reports ≡ true
@@ -74,7 +74,7 @@ encodable-reported p c is-sound low = by-answer (isSchedule c) (eqb (c .function
     by-answer :
         (is-schedule silent row : Bool) → isSchedule c ≡ is-schedule → eqb (c .function) 2 ≡ silent → known (commandNumber c) ≡ row
         → allEncodable (reported p c)
-    by-answer true silent row h s k = rw (reports .entry h) (encodable-entry (answered (c .function) (c .value)) (p .schedule) c low)
+    by-answer true silent row h s k = rw (entry-reported p c h) (encodable-entry (answered (c .function) (c .value)) (p .schedule) c low)
     by-answer false true row h s k = rw (reports .silence s)
     by-answer false false true h s k =
         let lengths : (1 ≤ length (valueOf (p .store) (commandNumber c))) × (length (valueOf (p .store) (commandNumber c)) ≤ 64) =
@@ -118,12 +118,15 @@ low-commands r = by-block (decoded r) refl
     by-block none e = refl
     by-block (some cs) e = low-bytes (r .frame .function) (r .frame .block) cs e
 
-pub reports-encodable : (r : Request) → sound (r .board) ≡ true → Sized (r .board .parameters) → every encodableReport (reportsOf r) ≡ true
-reports-encodable r legal sized = by-discovery (isDiscovery r)
+pub reports-encodable : (r : Request) → sound (r .board) ≡ true → every encodableReport (reportsOf r) ≡ true
+reports-encodable r legal = by-discovery (isDiscovery r)
   where
+    parts : SoundParts (r .board)
+    parts = sound-parts (r .board) legal
+
     by-discovery :
         (discovery : Bool)
         → allEncodable (cond discovery (discoverReports (r .board .id) (commandsOf r)) (runReports (r .board .parameters) (commandsOf r)))
     by-discovery true = discovery-encodable (r .board .id) (id-length (r .board) legal) (commandsOf r) (low-commands r)
     by-discovery false =
-        run-encodable (commandsOf r) (r .board .parameters) (record { size = sized; is-sound = sound-parts (r .board) legal .held }) (low-commands r)
+        run-encodable (commandsOf r) (r .board .parameters) (record { size = parts .sized; is-sound = parts .held }) (low-commands r)

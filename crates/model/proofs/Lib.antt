@@ -1,6 +1,7 @@
 pub mod StepRefusals
 pub mod Soundness
 pub mod Refused
+pub mod RowOperations
 pub mod Changed
 pub mod Unauthenticated
 pub mod Noninterfering

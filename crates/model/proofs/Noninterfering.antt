@@ -6,12 +6,12 @@ use mathlib.Core.Path.{_≡_, refl, sym, ap, _∙_}
 use borrow.Author.Tests.{le-ltb}
 use lib.ListN.{length, take}
 use Rattle.model.specs.Authentication.{bears, discovers}
-use Rattle.model.specs.Changes.{SameIdentity, Legal}
+use Rattle.model.specs.Changes.{SameIdentity}
 use Rattle.model.specs.Discovery.{replyOf, discoveryReply}
 use Rattle.model.specs.Measurement.{measureCall}
 use Rattle.model.specs.Noninterference.{OwnCall, ofPacket, ofMeasurement, ListedCall, toBoth, toFirst, toSecond, boardAfter, returned, Unauthenticated, without, ends, returns, Discoverable, Claim, Noninterference}
 use Rattle.model.specs.PublicReply.{replyTo, bufferedReply, publicReply}
-use Rattle.model.specs.Record.{passwordOf, setUpBoard}
+use Rattle.model.specs.Record.{passwordOf, setUpBoard, sound}
 use Rattle.model.specs.Step.{call, Outcome, step}
 use Rattle.model.specs.declared.Answer.the-variants.{Refused}
 use Rattle.model.specs.declared.Board.{Board}
@@ -23,10 +23,10 @@ record Kept (board : Board) (id password : List ℕ) (mode : ℕ) : Type 0 where
   id-kept : board .id ≡ id
   password-kept : passwordOf board ≡ password
   mode-kept : board .mode ≡ mode
-  legal : Legal board
+  legal : sound board ≡ true
 
 kept-on :
-    {before after : Board} {id password : List ℕ} {mode : ℕ} → SameIdentity before after → (Legal before → Legal after)
+    {before after : Board} {id password : List ℕ} {mode : ℕ} → SameIdentity before after → (sound before ≡ true → sound after ≡ true)
     → Kept before id password mode → Kept after id password mode
 kept-on same legal kept =
     record {
@@ -50,27 +50,27 @@ discoverable {board} {id} {mode = mode} kept =
     found :
         (packet buffer : List ℕ) → discovers mode packet ≡ true
         → step (call board packet buffer) ≡ withReply board (bufferedReply packet (board .id) buffer)
-    found packet buffer h = discovery-step board packet buffer (kept .legal .is-sound) (ap (λ (m : ℕ). discovers m packet) (kept .mode-kept) ∙ h)
+    found packet buffer h = discovery-step board packet buffer (kept .legal) (ap (λ (m : ℕ). discovers m packet) (kept .mode-kept) ∙ h)
 
 -- an unauthenticated packet
 answered-publicly :
     {board : Board} {id password : List ℕ} {mode : ℕ} → Kept board id password mode → (packet buffer : List ℕ) → bears packet password ≡ false
     → (step (call board packet buffer) .board ≡ board) × (replyTo board packet buffer ≡ publicReply mode id packet buffer)
 answered-publicly {board} kept packet buffer unknown =
-    let replies = unauthenticated-answered board packet buffer (kept .legal .is-sound) (ap (bears packet) (kept .password-kept) ∙ unknown) in
+    let replies = unauthenticated-answered board packet buffer (kept .legal) (ap (bears packet) (kept .password-kept) ∙ unknown) in
     (replies .unchanged, replies .reply ∙ (λ i. publicReply (kept .mode-kept i) (kept .id-kept i) packet buffer))
 
 step-kept :
     {board : Board} {id password : List ℕ} {mode : ℕ} → Kept board id password mode → (packet buffer : List ℕ)
     → Kept (step (call board packet buffer) .board) id password mode
 step-kept {board} kept packet buffer =
-    let changes = packets-change (call board packet buffer) (kept .legal .sized) in
+    let changes = packets-change (call board packet buffer) in
     kept-on (changes .identity) (changes .legal) kept
 
 own-kept : {board : Board} {id password : List ℕ} {mode : ℕ} → Kept board id password mode → (own : OwnCall) → Kept (boardAfter board own) id password mode
 own-kept kept (ofPacket packet buffer) = step-kept kept packet buffer
 own-kept {board} kept (ofMeasurement n value) =
-    let changes = measurements-change (measureCall board n value) (kept .legal .sized) in
+    let changes = measurements-change (measureCall board n value) in
     kept-on (changes .identity) (changes .legal) kept
 
 claim :

@@ -1,49 +1,63 @@
 -- Demand 2: a packet makes the changes of its commands and no others, a measurement sets its own row, and sound records stay sound.
-use Prim.Native.Nat.{ℕ}
-use mathlib.Core.Bool.{Bool, true, false, cond, not, _&&_, _||_}
+--
+-- What a statement asks of a packet and of its commands is said by numbers, by the row's set and by block's `commands`: a wrong definition of
+-- what a command does then breaks a statement, and none becomes empty by it.
+use Prim.Native.Nat.{ℕ, _≤_}
+use mathlib.Core.Bool.{Bool, true, false, not, _&&_, _||_}
 use mathlib.Core.List.{List, [], _∷_, _++_}
-use mathlib.Core.Option.{Option, none, some}
+use mathlib.Core.Logic.{_⊎_}
+use mathlib.Core.Option.{none, some}
 use mathlib.Core.Path.{_≡_}
-use lib.Dec.{eqb}
-use lib.ListN.{length, drop}
-use Rattle.block.specs.Command.{Command, commandNumber, held, unknown}
+use lib.Dec.{leb, eqb}
+use lib.ListN.{length, drop, getD}
+use Rattle.octets.specs.Octets.{between}
+use Rattle.framing.specs.Identity.{defaultId}
+use Rattle.framing.specs.Packet.{frameOf}
+use Rattle.block.specs.Command.{Command, commandNumber, Report, held, unknown}
 use Rattle.block.specs.Encoding.{every}
-use Rattle.block.specs.Reading.{isSome}
-use Rattle.store.specs.Laws as rows
-use Rattle.store.specs.Laws.{Operation, Write, Raise, Lower, newValue}
+use Rattle.block.specs.Request.{commands}
+use Rattle.store.specs.Laws.{Least, Greatest, heldNumber}
 use Rattle.store.specs.Layout.{sizeOf, roomOf, valueOf}
-use Rattle.store.specs.Operations.{measurable, affected}
-use Rattle.store.specs.Rows.{rowOf, known}
-use Rattle.schedule.specs.Days.{isDay, isPeriod, daysOf, contains}
-use Rattle.schedule.specs.Entries.{entryAt}
+use Rattle.store.specs.Operations.{affected}
+use Rattle.store.specs.Rows.{Switch, Number, rowOf, allows}
+use Rattle.store.specs.Sets.{inRange, member}
+use Rattle.store.specs.declared.Range.{Range}
+use Rattle.store.specs.declared.Store.{Store}
+use Rattle.schedule.specs.Days.{daysOf, contains, isEmpty}
+use Rattle.schedule.specs.Entries.{entry, degrees, bytesOf, entryAt}
 use Rattle.schedule.specs.Laws as entries
-use Rattle.schedule.specs.Laws.{isFor}
-use Rattle.schedule.specs.Operations.{dayIn, periodIn, entryIn, answered, stores}
-use Rattle.model.specs.Commands.{isSchedule, isWrite, afterCommand, entryReport, reported, run, runReports}
+use Rattle.model.specs.Commands.{afterCommand, reported, run, runReports}
 use Rattle.model.specs.Measurement.{MeasureCall, measureRefusal, measuredBoard}
 use Rattle.model.specs.Record.{SetUp, setUpBoard, sound}
-use Rattle.model.specs.Step.{Call, request, isDiscovery, commandsOf, reportsOf, stepRefusal, step}
+use Rattle.model.specs.Step.{Call, request, reportsOf, stepRefusal, step}
 use Rattle.model.specs.declared.Board.{Board}
 use Rattle.model.specs.declared.Parameters.{Parameters}
 
--- what a command does to its parameter, if anything
-abbrev pub operationOf : Command → Option Operation
-operationOf c =
-    cond (isWrite c) (some (Write (c .value)))
-    (cond (eqb (c .function) 4) (some Raise)
-    (cond (eqb (c .function) 5) (some Lower)
-    none))
+-- the commands of a packet: its data block, read from its FUNC on
+abbrev pub Asks : Call → List Command → Type 0
+Asks c cs = commands (frameOf (c .packet) .function) (frameOf (c .packet) .block) ≡ some cs
 
--- whether a command writes, raises or lowers a parameter that affects this one
+-- whether a command is 02 to 05 of a parameter that affects this one
 abbrev pub mayChange : ℕ → Command → Bool
-mayChange n c = isSome (operationOf c) && affected (commandNumber c) n
+mayChange n c = between 2 5 (c .function) && affected (commandNumber c) n
 
 abbrev pub noneChanges : ℕ → List Command → Bool
 noneChanges n cs = every (λ (c : Command). not (mayChange n c)) cs
 
--- whether a command stores this entry of the schedule
+-- the fields behind day and period: speed 0 to 5, temperature 0 or 15 to 30, end minute 0 to 59, end hour 0 to 23
+abbrev pub legalFields : List ℕ → Bool
+legalFields value =
+    leb (getD value 2 0) 5 && (eqb (getD value 3 0) 0 || between 15 30 (getD value 3 0)) && leb (getD value 4 0) 59 && leb (getD value 5 0) 23
+
+-- six bytes for this entry: its day or a group with it, its period, and legal fields
+abbrev pub isForEntry : ℕ → ℕ → List ℕ → Bool
+isForEntry day period value =
+    eqb (length value) 6 && contains (daysOf (getD value 0 0)) day && eqb (getD value 1 0) period && legalFields value
+
+-- whether a command is 02 or 03 of the schedule, for this entry
 abbrev pub storesEntry : ℕ → ℕ → Command → Bool
-storesEntry day period c = isSchedule c && isWrite c && (stores (c .value) && isFor (c .value) day period)
+storesEntry day period c =
+    eqb (commandNumber c) 0x0077 && (eqb (c .function) 2 || eqb (c .function) 3) && isForEntry day period (c .value)
 
 abbrev pub noneStores : ℕ → ℕ → List Command → Bool
 noneStores day period cs = every (λ (c : Command). not (storesEntry day period c)) cs
@@ -55,25 +69,36 @@ pub record SameIdentity (before after : Board) : Type 0 where
   pub size : after .size ≡ before .size
   pub mode : after .mode ≡ before .mode
 
--- parameters as long as the code has them
-pub record Sized (parameters : Parameters) : Type 0 where
-  pub store : rows.Sized (parameters .store)
-  pub schedule : entries.Sized (parameters .schedule)
+-- whether a command asks for an entry: 01 with a day and a period; or writes one, well or not: 03 with six bytes, a day or group, and a period
+abbrev pub asksEntry : Command → Bool
+asksEntry c = eqb (c .function) 1 && (eqb (length (c .value)) 2 && between 1 7 (getD (c .value) 0 0) && between 1 4 (getD (c .value) 1 0))
 
--- a record that each call may take: sound, and its parameters as long as the code has them
-pub record Legal (board : Board) : Type 0 where
-  pub is-sound : sound board ≡ true
-  pub sized : Sized (board .parameters)
+abbrev pub writesEntry : Command → Bool
+writesEntry c =
+    eqb (c .function) 3 && (eqb (length (c .value)) 6 && not (isEmpty (daysOf (getD (c .value) 0 0))) && between 1 4 (getD (c .value) 1 0))
+
+-- the report of the entry of a day, at the period that the command names: day, period and the entry's four bytes
+abbrev pub entryOn : ℕ → Parameters → Command → Report
+entryOn day parameters c =
+    held (c .page) (c .low) (day ∷ getD (c .value) 1 0 ∷ bytesOf (entryAt (parameters .schedule) day (getD (c .value) 1 0)))
 
 -- what a command reports: nothing under 02, else the value held, or the mark of an unknown parameter
 pub record ReportsHeld (parameters : Parameters) (c : Command) : Type 0 where
   pub silence : eqb (c .function) 2 ≡ true → reported parameters c ≡ []
   pub value :
-      eqb (c .function) 2 ≡ false → known (commandNumber c) ≡ true
+      eqb (c .function) 2 ≡ false → allows (commandNumber c) 1 ≡ true
       → reported parameters c ≡ held (c .page) (c .low) (valueOf (parameters .store) (commandNumber c)) ∷ []
-  pub entry : isSchedule c ≡ true → reported parameters c ≡ entryReport (answered (c .function) (c .value)) (parameters .schedule) c
+  -- of the schedule: the entry asked for, that of the first day written, or the mark
+  pub asked :
+      eqb (commandNumber c) 0x0077 ≡ true → asksEntry c ≡ true → reported parameters c ≡ entryOn (getD (c .value) 0 0) parameters c ∷ []
+  pub written :
+      eqb (commandNumber c) 0x0077 ≡ true → writesEntry c ≡ true
+      → reported parameters c ≡ entryOn (getD (daysOf (getD (c .value) 0 0)) 0 0) parameters c ∷ []
+  pub no-entry :
+      eqb (commandNumber c) 0x0077 ≡ true → eqb (c .function) 2 ≡ false → asksEntry c ≡ false → writesEntry c ≡ false
+      → reported parameters c ≡ unknown (c .page) (c .low) ∷ []
   pub mark :
-      eqb (c .function) 2 ≡ false → known (commandNumber c) ≡ false → isSchedule c ≡ false
+      eqb (c .function) 2 ≡ false → allows (commandNumber c) 1 ≡ false → eqb (commandNumber c) 0x0077 ≡ false
       → reported parameters c ≡ unknown (c .page) (c .low) ∷ []
 
 abbrev pub ValuesReported : Type 0
@@ -81,8 +106,8 @@ ValuesReported = (parameters : Parameters) (c : Command) → ReportsHeld paramet
 
 -- a command of the schedule leaves every row as it was, any other command every entry
 pub record LeavesOthers (parameters : Parameters) (c : Command) : Type 0 where
-  pub rows : isSchedule c ≡ true → afterCommand parameters c .store ≡ parameters .store
-  pub entries : isSchedule c ≡ false → afterCommand parameters c .schedule ≡ parameters .schedule
+  pub rows : eqb (commandNumber c) 0x0077 ≡ true → afterCommand parameters c .store ≡ parameters .store
+  pub entries : eqb (commandNumber c) 0x0077 ≡ false → afterCommand parameters c .schedule ≡ parameters .schedule
 
 abbrev pub OthersLeft : Type 0
 OthersLeft = (parameters : Parameters) (c : Command) → LeavesOthers parameters c
@@ -90,21 +115,50 @@ OthersLeft = (parameters : Parameters) (c : Command) → LeavesOthers parameters
 -- a read of the schedule just after a write gives back what was written, on each day of the write
 abbrev pub EntriesReadBack : Type 0
 EntriesReadBack =
-    (parameters : Parameters) (write read : Command) (day : ℕ) → Sized parameters
-    → isSchedule write ≡ true → isWrite write ≡ true → stores (write .value) ≡ true → contains (daysOf (dayIn (write .value))) day ≡ true
-    → isSchedule read ≡ true → read .function ≡ 1 → read .value ≡ day ∷ periodIn (write .value) ∷ []
+    (parameters : Parameters) (write read : Command) (day period : ℕ) → entries.Sized (parameters .schedule)
+    → between 1 4 period ≡ true → storesEntry day period write ≡ true
+    → eqb (commandNumber read) 0x0077 ≡ true → read .function ≡ 1 → read .value ≡ day ∷ period ∷ []
     → reported (run parameters (write ∷ read ∷ [])) read ≡ held (read .page) (read .low) (day ∷ drop 1 (write .value)) ∷ []
+
+-- 02 or 03
+abbrev pub Writing : Command → Type 0
+Writing c = (c .function ≡ 2) ⊎ (c .function ≡ 3)
+
+-- what a command calls for in its row n, from the store just before it to the one in the end
+pub record CarriedOut (c : Command) (n : ℕ) (from to : Store) : Type 0 where
+  -- a read, and a function that the row does not have, leave it as it was
+  pub read : c .function ≡ 1 → roomOf to n ≡ roomOf from n
+  pub not-allowed : allows n (c .function) ≡ false → roomOf to n ≡ roomOf from n
+  -- a write stores a value of the row's set, and a 2 inverts a switch; any other value leaves the row as it was
+  pub written : Writing c → allows n (c .function) ≡ true → member (rowOf n .set) (c .value) ≡ true → valueOf to n ≡ c .value
+  pub switched-on :
+      Writing c → allows n (c .function) ≡ true → rowOf n .set ≡ Switch → c .value ≡ 2 ∷ [] → valueOf from n ≡ 0 ∷ [] → valueOf to n ≡ 1 ∷ []
+  pub switched-off :
+      Writing c → allows n (c .function) ≡ true → rowOf n .set ≡ Switch → c .value ≡ 2 ∷ [] → valueOf from n ≡ 1 ∷ [] → valueOf to n ≡ 0 ∷ []
+  pub not-written :
+      Writing c → member (rowOf n .set) (c .value) ≡ false → (rowOf n .set ≡ Switch → c .value ≡ 2 ∷ [] → ⊥) → roomOf to n ≡ roomOf from n
+  -- a raise takes the least number of the row's set above the one held, a lower the greatest below; if there is none, the row is as it was
+  pub raised :
+      c .function ≡ 4 → allows n 4 ≡ true → (size : ℕ) (r : Range) → rowOf n .set ≡ Number size r
+      → Least r (heldNumber from n) (heldNumber to n)
+      ⊎ ((roomOf to n ≡ roomOf from n) × ((z : ℕ) → inRange r z ≡ true → z ≤ heldNumber from n))
+  pub lowered :
+      c .function ≡ 5 → allows n 5 ≡ true → (size : ℕ) (r : Range) → rowOf n .set ≡ Number size r
+      → Greatest r (heldNumber from n) (heldNumber to n)
+      ⊎ ((roomOf to n ≡ roomOf from n) × ((z : ℕ) → inRange r z ≡ true → heldNumber from n ≤ z))
 
 -- a command of an accepted packet, by its place among the others
 pub record CommandRuns (c : Call) (before : List Command) (command : Command) (behind : List Command) : Type 0 where
-  -- what it stores is held afterwards, unless a later command changes it
-  pub stored :
-      (operation : Operation) (value : List ℕ) → operationOf command ≡ some operation
-      → newValue operation (run (c .board .parameters) before .store) (commandNumber command) ≡ some value
-      → noneChanges (commandNumber command) behind ≡ true → valueOf (step c .board .parameters .store) (commandNumber command) ≡ value
+  -- in the end its row is what it calls for, unless a later command may change it
+  pub carried :
+      noneChanges (commandNumber command) behind ≡ true
+      → CarriedOut command (commandNumber command) (run (c .board .parameters) before .store) (step c .board .parameters .store)
+  -- and an entry that it stores is the one written, unless a later command stores it
   pub stored-entry :
-      (day period : ℕ) → isDay day ≡ true → isPeriod period ≡ true → storesEntry day period command ≡ true
-      → noneStores day period behind ≡ true → entryAt (step c .board .parameters .schedule) day period ≡ entryIn (command .value)
+      (day period : ℕ) → between 1 7 day ≡ true → between 1 4 period ≡ true → storesEntry day period command ≡ true
+      → noneStores day period behind ≡ true
+      → entryAt (step c .board .parameters .schedule) day period
+      ≡ entry (getD (command .value) 2 0) (degrees (getD (command .value) 3 0)) (getD (command .value) 4 0) (getD (command .value) 5 0)
   -- its report holds the value just after it
   pub reports :
       reportsOf (request c)
@@ -116,35 +170,42 @@ pub record PacketChanges (c : Call) : Type 0 where
   pub identity : SameIdentity (c .board) (step c .board)
   -- parameters that no command of the packet affects keep their bytes
   pub others :
-      (n : ℕ) → noneChanges n (commandsOf (request c)) ≡ true
+      (cs : List Command) → Asks c cs → (n : ℕ) → noneChanges n cs ≡ true
       → roomOf (step c .board .parameters .store) n ≡ roomOf (c .board .parameters .store) n
   -- and so do entries of the schedule that no command stores
   pub entries :
-      (day period : ℕ) → isDay day ≡ true → isPeriod period ≡ true → noneStores day period (commandsOf (request c)) ≡ true
+      (cs : List Command) → Asks c cs → (day period : ℕ) → between 1 7 day ≡ true → between 1 4 period ≡ true → noneStores day period cs ≡ true
       → entryAt (step c .board .parameters .schedule) day period ≡ entryAt (c .board .parameters .schedule) day period
+  -- no commands, no reports
+  pub silent : Asks c [] → reportsOf (request c) ≡ []
+  -- each command of a packet that is accepted, and is no discovery (search)
   pub runs :
-      stepRefusal c ≡ none → isDiscovery (request c) ≡ false
+      stepRefusal c ≡ none → (c .board .mode ≡ 1 → frameOf (c .packet) .id ≡ defaultId → ⊥)
       → (before : List Command) (command : Command) (behind : List Command)
-      → commandsOf (request c) ≡ before ++ command ∷ behind → CommandRuns c before command behind
-  pub legal : Legal (c .board) → Legal (step c .board)
+      → Asks c (before ++ command ∷ behind) → CommandRuns c before command behind
+  -- a sound record stays sound, and each of its rows holds a value of its set
+  pub legal : sound (c .board) ≡ true → sound (step c .board) ≡ true
+  pub members : sound (c .board) ≡ true → (n : ℕ) → allows n 1 ≡ true → member (rowOf n .set) (valueOf (step c .board .parameters .store) n) ≡ true
 
 abbrev pub PacketsChange : Type 0
-PacketsChange = (c : Call) → Sized (c .board .parameters) → PacketChanges c
+PacketsChange = (c : Call) → PacketChanges c
 
 pub record MeasurementChanges (c : MeasureCall) : Type 0 where
   pub identity : SameIdentity (c .board) (measuredBoard c)
-  -- a value of its row's size is accepted for a measured row, and an accepted one is what the row then holds
+  -- a value of its row's size is accepted for a read-only row but 007C and 00B9, and an accepted one is what the row then holds
   pub accepted :
-      sound (c .board) ≡ true → measurable (c .number) ≡ true → length (c .value) ≡ sizeOf (rowOf (c .number) .set) → measureRefusal c ≡ none
+      sound (c .board) ≡ true → allows (c .number) 1 ≡ true → allows (c .number) 2 ≡ false
+      → eqb (c .number) 0x007C ≡ false → eqb (c .number) 0x00B9 ≡ false
+      → length (c .value) ≡ sizeOf (rowOf (c .number) .set) → measureRefusal c ≡ none
   pub stored : measureRefusal c ≡ none → valueOf (measuredBoard c .parameters .store) (c .number) ≡ c .value
   pub others :
       (n : ℕ) → affected (c .number) n ≡ false → roomOf (measuredBoard c .parameters .store) n ≡ roomOf (c .board .parameters .store) n
   pub entries : measuredBoard c .parameters .schedule ≡ c .board .parameters .schedule
-  pub legal : Legal (c .board) → Legal (measuredBoard c)
+  pub legal : sound (c .board) ≡ true → sound (measuredBoard c) ≡ true
 
 abbrev pub MeasurementsChange : Type 0
-MeasurementsChange = (c : MeasureCall) → Sized (c .board .parameters) → MeasurementChanges c
+MeasurementsChange = (c : MeasureCall) → MeasurementChanges c
 
--- set-up gives such a record, refused or not
+-- set-up gives a sound record, refused or not
 abbrev pub SetUpsLegal : Type 0
-SetUpsLegal = (given : SetUp) → Legal (setUpBoard given)
+SetUpsLegal = (given : SetUp) → sound (setUpBoard given) ≡ true

@@ -10,7 +10,7 @@ use Rattle.octets.specs.Octets.{same}
 use Rattle.framing.specs.Identity.{defaultId, allAlphanumeric, isPassword}
 use Rattle.framing.specs.Refusal.{Refusal, refusal, firstRefusal}
 use Rattle.store.specs.declared.Store.{Store}
-use Rattle.store.specs.Layout.{valueOf}
+use Rattle.store.specs.Layout.{storeSize, valueOf}
 use Rattle.store.specs.Sound as rows
 use Rattle.store.specs.Start.{start}
 use Rattle.schedule.specs.declared.Schedule.{Schedule}
@@ -101,10 +101,14 @@ pub record SetsUp (given : SetUp) (result : Answered) : Type 0 where
   pub answered : result .verdict ≡ verdictOf (setUpRefusal given)
   pub made : result .board ≡ setUpBoard given
 
+-- as many bytes and entries as the code's types have: no record of the code is without them
+abbrev pub isSized : Parameters → Bool
+isSized parameters = eqb (length (parameters .store .bytes)) storeSize && eqb (length (parameters .schedule .entries)) entries.entryCount
+
 -- refusal 70 where a record is not sound: set-up would refuse its ID, password or mode, an entry of the schedule has a field outside its
 -- range, a row is outside its set, or 007C or 00B9 differ from the identity
 unfoldable pub sound : Board → Bool
 sound board =
     isId (board .id) && leb (board .size) 8 && allAlphanumeric (passwordOf board) && isMode (board .mode)
-    && entries.sound (board .parameters .schedule) && rows.sound (board .parameters .store)
+    && isSized (board .parameters) && entries.sound (board .parameters .schedule) && rows.sound (board .parameters .store)
     && same (valueOf (board .parameters .store) 0x007C) (board .id) && same (valueOf (board .parameters .store) 0x00B9) micra

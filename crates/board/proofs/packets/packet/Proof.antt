@@ -12,8 +12,6 @@ use lib.ListN.{take, drop, getD}
 use Rattle.framing.specs.Frame.{frame}
 use Rattle.framing.specs.Packet.{frameAt, packetRefusal, placesOf}
 use Rattle.framing.specs.declared.Places.{Places}
-use Rattle.schedule.proofs.Lengths.{unmapped}
-use Rattle.model.specs.Changes.{Sized}
 use Rattle.model.specs.Step.{Call, Request, call, outcomeBy, request, requestOf, smallBuffer, step, unsound}
 use Rattle.model.specs.declared.Board.{Board}
 use Rattle.model.specs.declared.Answer.the-variants.{Refused}
@@ -163,12 +161,9 @@ returns-4 c =
     let call = asked (k .before .before .before .before .before .before .before .before) in
     let legal = record-right (k .before .before .before .before .before .before) in
     let room = buffer-right (k .before .before .before) in
-    let whole : Sized (call .board .parameters) =
-    let good = k .before .before .before .before .before .before .before .before .before .before .before .good .0 .1 .1 .1 .1 .1 .1 .0 in
-    record { store = search (needs, good); schedule = search (needs, unmapped, good) } in
     steps
     (ap (λ (refusal : Option ℕ). outcomeBy refusal (request call) (call .buffer)) (step-refusal-by call legal room (read-right k .0) refl)
-    ∙ sym (answered-outcome (request call) (call .buffer) (not-false _ legal) whole (password-short (call .packet) (read-right k .0)) (ltb-false _ _ room))
+    ∙ sym (answered-outcome (request call) (call .buffer) (not-false _ legal) (password-short (call .packet) (read-right k .0)) (ltb-false _ _ room))
     ∙ ap (λ (r : Request). answered r (call .buffer)) (sym (same-request (call .board) (call .packet) (read-right k .1))))
     (c .before .before .answer .ensures)
 

@@ -12,6 +12,8 @@ use Rattle.framing.specs.Identity.{allAlphanumeric}
 use Rattle.framing.specs.Refusal.{checked}
 use Rattle.framing.proofs.Refusals.{passed, failed}
 use Rattle.board.proofs.Starting.{unsound-id, unsound-size, unsound-password, unsound-mode, unsound-entries, sound-rows, wrong-characters}
+use Rattle.schedule.proofs.Lengths.{unmapped}
+use Rattle.model.proofs.Soundness.{Sized}
 use borrow.Author.Needs.{needs}
 use Rattle.board.proofs.records.check_record.Statement.{statement}
 use Rattle.board.proofs.records.check_record.Tie as tie
@@ -95,6 +97,7 @@ returns-6 : tie.Need-returns-6
 returns-6 c =
     let board = c .before .before .before .before .before .before .before .before .before .before .before .before .before .before .before .before .before .before .before .args .board in
     let size = c .before .before .before .before .before .before .before .before .before .before .before .before .before .wide .result in
+    let sized : Sized (board .parameters) = record { store = search needs; schedule = search (needs, unmapped) } in
     let short : board .size ≤ 8 = omega (arith, c .before .before .before .before .before .before .before .before .before .before .before .before .before .wide .ensures) in
     let right = not-false _ (passed _ (c .before .before .before .before .before .before .before .before .before .check-new-password .ensures) (c .before .before .before .before .before .before .before .enum-told3 .given .1)) in
     let characters = both-true (leb (length (take size (board .password))) 8) _ right .1 in
@@ -102,7 +105,7 @@ returns-6 c =
     ∙ sym (ap (λ (right : Bool). checked (not right)) (sound-rows board (not-false _ (passed _ (c .before .before .before .before .before .before .before .before .before .before .before .before .before .before .before .before .check-id .ensures) (c .before .before .before .before .before .before .before .before .before .before .before .before .before .before .enum-told .given .1))) (le-leb _ _ short)
     (ap (λ (n : ℕ). allAlphanumeric (take n (board .password))) (sym (c .before .before .before .before .before .before .before .before .before .before .before .before .before .wide .ensures)) ∙ characters)
     (not-false _ (passed _ (c .before .before .before .before .before .before .check-mode .ensures) (c .before .before .before .before .enum-told5 .given .1)))
-    (sym (c .before .before .sound .ensures) ∙ not-false _ (c .before .if2 .left))))
+    sized (sym (c .before .before .sound .ensures) ∙ not-false _ (c .before .if2 .left))))
 
 pub check-record-spec : {M : Type 1} → statement M
 check-record-spec =
