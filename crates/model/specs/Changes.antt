@@ -71,7 +71,7 @@ pub record SameIdentity (before after : Board) : Type 0 where
 
 -- whether a command asks for an entry: 01 with a day and a period; or writes one, well or not: 03 with six bytes, a day or group, and a period
 abbrev pub asksEntry : Command → Bool
-asksEntry c = eqb (c .function) 1 && (eqb (length (c .value)) 2 && between 1 7 (getD (c .value) 0 0) && between 1 4 (getD (c .value) 1 0))
+asksEntry c = eqb (c .function) 1 && (eqb (length (c .value)) 2 && (between 1 7 (getD (c .value) 0 0) && between 1 4 (getD (c .value) 1 0)))
 
 abbrev pub writesEntry : Command → Bool
 writesEntry c =
