@@ -2,7 +2,7 @@
  * A main loop for the firmware's author: one board record, a packet in, its answer out, a measurement now and then.
  * A fixed list of packets stands in for the radio, and what would be sent is printed.
  *
- *   cc -std=c11 -Wall -Wextra -Werror -Iinclude examples/main_loop.c target/staticlib/libfirmware.a -o main_loop
+ *   make -C examples && target/examples/main_loop
  */
 #include <stdbool.h>
 #include <stdio.h>

@@ -2,7 +2,7 @@
  * The tool in C: a request is written, a response judged and listed. The request is the guide's read of 0x0001 and 0x0002; the response
  * is the guide's too, and stands in for what a socket would bring.
  *
- *   cc -std=c11 -Wall -Wextra -Werror -Iinclude examples/request.c target/staticlib/libfirmware.a -o request
+ *   make -C examples && target/examples/request
  */
 #include <stdio.h>
 #include <stdlib.h>

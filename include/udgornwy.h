@@ -1,8 +1,10 @@
 /*
  * Udgornwy: the controller board of a Micra 100 WiFi unit, and the tool that writes its requests and reads its responses.
  *
- * Link target/staticlib/libfirmware.a, which `rt staticlib firmware` writes; with --gc-sections only what is called comes along. It
- * allocates nothing, keeps nothing between calls and calls nothing but memcpy, memmove and memset.
+ * For C (C11) and C++ (C++11). Link target/staticlib/libfirmware.a, which `rt staticlib firmware` writes; with --gc-sections only what
+ * is called comes along. It allocates nothing, keeps nothing between calls and calls nothing but memcpy, memmove and memset.
+ *
+ * The archive is for x86-64 alone, since the kit compiles for nothing else. A board of another kind needs the toolchain to grow first.
  *
  * For every call:
  *  - A slice is a pointer and a count. The pointer must not be null, also where the count is 0. What a call writes to, record or buffer,
@@ -17,6 +19,13 @@
 #include <stddef.h>
 #include <stdint.h>
 
+#ifdef __cplusplus
+#define UDGORNWY_ASSERT static_assert
+extern "C" {
+#else
+#define UDGORNWY_ASSERT _Static_assert
+#endif
+
 enum {
     UDGORNWY_PORT = 4000,           /* the board's UDP port */
     UDGORNWY_ID = 16,               /* bytes of an ID */
@@ -24,6 +33,8 @@ enum {
     UDGORNWY_STORE = 227,           /* bytes of the rows' values */
     UDGORNWY_DAYS = 7,              /* of the weekly schedule, Monday first */
     UDGORNWY_PERIODS = 4,           /* of a day */
+    UDGORNWY_ENTRY = 4,             /* bytes of a period */
+    UDGORNWY_BOARD = UDGORNWY_ID + UDGORNWY_PASSWORD + 2 + UDGORNWY_STORE + UDGORNWY_DAYS * UDGORNWY_PERIODS * UDGORNWY_ENTRY,
     UDGORNWY_SHORTEST_PACKET = 24,
     UDGORNWY_LONGEST_PACKET = 256,  /* also the room that a response and a request need */
     UDGORNWY_LONGEST_LISTING = 1753,
@@ -63,17 +74,14 @@ typedef struct {
     size_t length;    /* bytes written to the buffer's start, the rest stays; 0 where refused */
 } udgornwy_reply;
 
-_Static_assert(sizeof(udgornwy_entry) == 4, "an entry has four bytes");
-_Static_assert(sizeof(udgornwy_board) == 365, "the record has 365 bytes");
-_Static_assert(offsetof(udgornwy_board, password) == 16, "the password follows the ID");
-_Static_assert(offsetof(udgornwy_board, size) == 24, "the password's size follows its bytes");
-_Static_assert(offsetof(udgornwy_board, mode) == 25, "the mode follows the password's size");
-_Static_assert(offsetof(udgornwy_board, store) == 26, "the values follow the mode");
-_Static_assert(offsetof(udgornwy_board, schedule) == 253, "the schedule follows the values");
-_Static_assert(sizeof(udgornwy_kept) == 368, "the record and the refusal have 368 bytes");
-_Static_assert(offsetof(udgornwy_kept, refusal) == 366, "the refusal stands at an even place behind the record");
-_Static_assert(sizeof(udgornwy_reply) == 2 * sizeof(size_t), "the refusal takes the room of a length");
-_Static_assert(offsetof(udgornwy_reply, length) == sizeof(size_t), "the length follows the refusal");
+/* The library lays its structs out so: bytes without gaps, then a number at the next place that its size divides. */
+UDGORNWY_ASSERT(sizeof(udgornwy_entry) == UDGORNWY_ENTRY, "an entry has no gaps");
+UDGORNWY_ASSERT(sizeof(udgornwy_board) == UDGORNWY_BOARD, "a record has no gaps");
+UDGORNWY_ASSERT(offsetof(udgornwy_kept, refusal) == (UDGORNWY_BOARD + 1) / 2 * 2, "the refusal stands at the next even place");
+UDGORNWY_ASSERT(sizeof(udgornwy_kept) == (UDGORNWY_BOARD + 1) / 2 * 2 + 2, "nothing follows the refusal");
+UDGORNWY_ASSERT(offsetof(udgornwy_reply, length) == sizeof(size_t), "the refusal takes the room of a length");
+UDGORNWY_ASSERT(sizeof(udgornwy_reply) == 2 * sizeof(size_t), "nothing follows the length");
+#undef UDGORNWY_ASSERT
 
 /* ---- The board ---- */
 
@@ -159,5 +167,9 @@ uint16_t udgornwy_read(const uint8_t *packet, size_t packet_length, const uint8_
  *    1  the listing does not fit the text
  */
 udgornwy_reply udgornwy_list(uint8_t *text, size_t text_length, const uint8_t *packet, size_t packet_length);
+
+#ifdef __cplusplus
+}
+#endif
 
 #endif

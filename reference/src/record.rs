@@ -115,7 +115,7 @@ mod tests {
         assert_eq!(answer, Ok(()));
         assert_eq!((record.id, record.mode), (ID, ACCESS_POINT));
         assert_eq!(record.password, b"1111");
-        assert_eq!(record.values.len(), 72);
+        assert_eq!(record.values.len(), rows::all().len());
         assert_eq!(record.values[&0x007C], ID);
         assert_eq!(record.values[&0x00B9], [2, 0]);
         assert_eq!(record.values[&0x0037], [100]);

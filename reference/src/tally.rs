@@ -29,6 +29,12 @@ const EXPECTED: [(&str, &[u8], &[&str]); 9] = [
     ("line", &[], &["bad"]),
 ];
 
+/// The refusals of a call, in the order in which they are checked.
+pub fn refusals(call: &str) -> &'static [u8] {
+    let expected = EXPECTED.iter().find(|expected| expected.0 == call);
+    expected.map_or(&[], |expected| expected.1)
+}
+
 /// The counts, by call and answer.
 #[derive(Default)]
 pub struct Tally {

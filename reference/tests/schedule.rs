@@ -7,8 +7,8 @@ use board::{Board, CODE_WORD, ZERO_ID, packet};
 /// The entries that the record shows, in their order.
 fn entries(board: &mut Board) -> Vec<String> {
     let shown = board.call("record");
-    let (_, entries) = shown.split_once(" 0402=00 ").expect("the last row");
-    entries.split(' ').map(String::from).collect()
+    let entries = shown.split(' ').filter(|word| word.starts_with("0077:"));
+    entries.map(String::from).collect()
 }
 
 /// A board whose entries are all `05 1E 3B 17`.

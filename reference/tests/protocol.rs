@@ -1,0 +1,356 @@
+//! The tables of docs/PROTOCOL.md say what this implementation does.
+
+mod board;
+
+use std::collections::BTreeSet;
+use std::fs;
+use std::ops::RangeInclusive;
+use std::path::Path;
+
+use board::{Board, CODE_WORD, ZERO_ID, packet};
+use reference::edges;
+use reference::generate;
+use reference::record::{CLIENT, Record, setup};
+use reference::replay::Session;
+use reference::rows::{self, Row};
+use reference::schedule::{self, FIELDS, Schedule};
+use reference::tally;
+
+const ID: [u8; 16] = *b"002D6E1B34565815";
+/// The guide's default password, 1111.
+const PASSWORD: &str = "31313131";
+
+fn file(path: &str) -> String {
+    let root = Path::new(env!("CARGO_MANIFEST_DIR")).join("..");
+    fs::read_to_string(root.join(path)).expect("a file of the repository")
+}
+
+/// The cells of the table in a section of the page, found by the title of its first column.
+fn table(section: &str, first: &str) -> Vec<Vec<String>> {
+    let page = file("docs/PROTOCOL.md");
+    let mut lines = page
+        .lines()
+        .skip_while(|line| line.trim_start_matches('#') != format!(" {section}"))
+        .skip(1)
+        .take_while(|line| !line.starts_with('#'))
+        .skip_while(|line| !line.starts_with(&format!("| {first} |")));
+    let width = cells(lines.next().expect("the table's head")).len();
+    let rows: Vec<_> = lines
+        .skip(1)
+        .take_while(|line| line.starts_with('|'))
+        .map(cells)
+        .collect();
+    assert!(rows.iter().all(|row| row.len() == width), "{section}");
+    rows
+}
+
+fn cells(line: &str) -> Vec<String> {
+    let inner = line
+        .strip_prefix('|')
+        .and_then(|rest| rest.strip_suffix('|'));
+    let inner = inner.expect("a line of a table");
+    inner
+        .split('|')
+        .map(|cell| cell.trim().to_string())
+        .collect()
+}
+
+/// `a` or `a..b`, both ends included.
+fn range(text: &str) -> RangeInclusive<u16> {
+    let (low, high) = text.split_once("..").unwrap_or((text, text));
+    low.parse().expect("a number")..=high.parse().expect("a number")
+}
+
+/// Numbers and ranges, one after the other; a range may go by steps.
+fn members(text: &str) -> BTreeSet<u16> {
+    let parts = text.split(", ").flat_map(|part| {
+        let (numbers, step) = part.split_once(" by ").unwrap_or((part, "1"));
+        range(numbers).step_by(step.parse().expect("a step"))
+    });
+    parts.collect()
+}
+
+fn bytes(text: &str) -> Vec<u8> {
+    let byte = |digits| u8::from_str_radix(digits, 16).expect("two digits");
+    text.split(' ').map(byte).collect()
+}
+
+fn hex_number(text: &str) -> u16 {
+    u16::from_str_radix(text, 16).expect("four digits")
+}
+
+fn start() -> Record {
+    setup(&ID, b"1111", CLIENT).0
+}
+
+/// Whether a board may hold the value in the row.
+fn is_held(record: &mut Record, number: u16, value: &[u8]) -> bool {
+    let before = record.values[&number].clone();
+    record.poke_row(number, value);
+    let legal = record.values[&number] == value && record.check().is_ok();
+    record.values.insert(number, before);
+    legal
+}
+
+fn listed_rows() -> Vec<(u16, Vec<String>)> {
+    let rows = table("The rows", "Number").into_iter();
+    rows.map(|cells| (hex_number(&cells[0]), cells)).collect()
+}
+
+#[test]
+fn the_rows_are_those_that_exist() {
+    let numbers: Vec<u16> = listed_rows().iter().map(|(number, _)| *number).collect();
+    let existing: Vec<u16> = rows::all().keys().copied().collect();
+    assert_eq!(numbers, existing);
+    let count = format!("These {} rows exist.", existing.len());
+    assert!(file("docs/PROTOCOL.md").contains(&count));
+}
+
+#[test]
+fn rows_have_the_client_names() {
+    let client = file("host/src/rows.rs");
+    for (number, cells) in listed_rows() {
+        let (number, name) = (format!("0x{number:04X}"), format!("\"{}\"", cells[1]));
+        let named = |line: &str| line.contains(&number) && line.contains(&name);
+        assert!(client.lines().any(named), "{cells:?}");
+    }
+}
+
+#[test]
+fn rows_take_the_functions() {
+    for (number, cells) in listed_rows() {
+        let functions = members(&cells[2].replace(" to ", ".."));
+        for function in 0..=255 {
+            let listed = functions.contains(&u16::from(function));
+            assert_eq!(rows::all()[&number].takes(function), listed, "{cells:?}");
+        }
+    }
+}
+
+#[test]
+fn rows_have_the_sizes() {
+    for (number, cells) in listed_rows() {
+        let row = &rows::all()[&number];
+        let sizes = range(&cells[3]);
+        assert_eq!(row.room(), usize::from(*sizes.end()), "{cells:?}");
+        assert_eq!(row.is_text(), cells[4] == "text", "{cells:?}");
+        if row.is_text() {
+            for size in 0..=80 {
+                let text = vec![b'A'; usize::from(size)];
+                assert_eq!(row.contains(&text), sizes.contains(&size), "{cells:?}");
+            }
+        } else {
+            assert_eq!(sizes.start(), sizes.end(), "{cells:?}");
+        }
+    }
+}
+
+#[test]
+fn rows_have_the_sets() {
+    for (number, cells) in listed_rows() {
+        let row = &rows::all()[&number];
+        let (set, inverts) = match cells[4].strip_suffix("; 2 inverts") {
+            Some(set) => (set, true),
+            None => (&cells[4][..], false),
+        };
+        assert_eq!(row.inverts, inverts, "{cells:?}");
+        match set {
+            "any" => holds_bytes(row, &vec![0..=255; row.room()]),
+            "text" => holds_text(row),
+            "the ID" => holds_bytes(row, &ID.map(|byte| byte.into()..=byte.into())),
+            _ if set.contains(" / ") => {
+                let field = |field: &str| range(field.split_once(' ').expect("a field's name").1);
+                holds_bytes(row, &set.split(" / ").map(field).collect::<Vec<_>>());
+            }
+            _ => holds_numbers(row, &members(set)),
+        }
+    }
+}
+
+fn holds_numbers(row: &Row, members: &BTreeSet<u16>) {
+    let mut record = start();
+    for number in 0..=u16::MAX >> (16 - 8 * row.room()) {
+        let held = is_held(&mut record, row.number, &number.to_le_bytes()[..row.room()]);
+        let listed = members.contains(&number);
+        assert_eq!(held, listed, "{:04X} {number}", row.number);
+    }
+}
+
+fn holds_bytes(row: &Row, ranges: &[RangeInclusive<u16>]) {
+    assert_eq!(ranges.len(), row.room(), "{:04X}", row.number);
+    let mut record = start();
+    let lowest: Vec<u8> = ranges.iter().map(|range| *range.start() as u8).collect();
+    for (place, range) in ranges.iter().enumerate() {
+        for byte in 0..=255 {
+            let mut value = lowest.clone();
+            value[place] = byte;
+            let held = is_held(&mut record, row.number, &value);
+            let listed = range.contains(&byte.into());
+            assert_eq!(held, listed, "{:04X} {value:?}", row.number);
+        }
+    }
+}
+
+fn holds_text(row: &Row) {
+    let mut record = start();
+    for byte in 0..=255 {
+        let mut value = vec![b'A'; row.room()];
+        value[row.room() - 1] = byte;
+        let held = is_held(&mut record, row.number, &value);
+        let listed = (0x20..=0x7E).contains(&byte);
+        assert_eq!(held, listed, "{:04X} {byte:02X}", row.number);
+    }
+}
+
+#[test]
+fn rows_start_with_the_bytes() {
+    let record = start();
+    for (number, cells) in listed_rows() {
+        let listed = match &cells[5][..] {
+            "the ID" => ID.to_vec(),
+            digits => bytes(digits),
+        };
+        assert_eq!(record.values[&number], listed, "{cells:?}");
+    }
+}
+
+#[test]
+fn further_numbers_of_the_guide_are_unknown() {
+    let page = file("docs/PROTOCOL.md");
+    let (_, after) = page.split_once(" unknown here: ").expect("the sentence");
+    let (numbers, _) = after.split_once('.').expect("its end");
+    for number in numbers.split(", ").map(hex_number) {
+        assert!(rows::find(number).is_none() && number != schedule::NUMBER);
+    }
+}
+
+#[test]
+fn entries_have_the_fields() {
+    let listed = table("The weekly schedule", "Field");
+    assert_eq!(listed.len(), FIELDS.len());
+    let starting = Schedule::start();
+    for (place, (field, cells)) in FIELDS.into_iter().zip(listed).enumerate() {
+        assert_eq!(format!("{field:?}").to_lowercase(), cells[0]);
+        let members = members(&cells[1]);
+        for byte in 0..=255 {
+            let listed = members.contains(&u16::from(byte));
+            assert_eq!(field.contains(byte), listed, "{cells:?} {byte}");
+        }
+        let value: u8 = cells[2].parse().expect("a number");
+        assert!(starting.entries().all(|entry| entry.2[place] == value));
+    }
+}
+
+#[test]
+fn written_days_stand_for_the_days() {
+    let listed = table("The weekly schedule", "Day written");
+    for day in 0..=255u8 {
+        let mut schedule = Schedule::start();
+        schedule.run(2, &[day, 3, 5, 30, 59, 23]);
+        let changed = schedule.entries().filter(|entry| entry.2[0] == 5);
+        let changed: BTreeSet<u16> = changed.map(|entry| entry.0.into()).collect();
+        let row = listed.iter().find(|cells| cells[0] == day.to_string());
+        let days = row.map_or(BTreeSet::new(), |cells| members(&cells[1]));
+        assert_eq!(changed, days, "{day}");
+    }
+}
+
+#[test]
+fn examples_are_answered_so() {
+    let mut board = Board::new(PASSWORD, 1);
+    for cells in table("Examples", "FUNC") {
+        let (function, data) = (cells[0].parse().expect("a function"), &cells[1]);
+        match &cells[2][..] {
+            answer if answer == "silence" || answer.starts_with("refused ") => {
+                assert_eq!(board.ask(function, data), answer, "{cells:?}");
+            }
+            response => board.expect(function, data, response),
+        }
+    }
+}
+
+#[test]
+fn the_discovery_is_answered_so() {
+    let page = file("docs/PROTOCOL.md");
+    let (_, after) = page
+        .split_once("\nA discovery with the data block")
+        .expect("the sentence");
+    let quoted: Vec<&str> = after.split('`').skip(1).step_by(2).take(3).collect();
+    let sent = packet(CODE_WORD, "", 1, quoted[0]);
+    let answer = Board::new(PASSWORD, 1).call(&format!("packet 256 {sent}"));
+    let data = [quoted[1], ZERO_ID, quoted[2]].concat();
+    let response = packet(ZERO_ID, "", 6, &data);
+    assert_eq!(answer, format!("response {response}"));
+}
+
+#[test]
+fn packets_and_listing_are_written_so() {
+    let page = file("docs/PROTOCOL.md");
+    let shown: Vec<String> = page
+        .lines()
+        .filter_map(|line| line.strip_prefix("    "))
+        .map(|line| line.replace(' ', ""))
+        .collect();
+    let mut board = Board::new(PASSWORD, 1);
+    assert_eq!(shown[0], packet(ZERO_ID, PASSWORD, 1, "01 02"));
+    assert_eq!(board.ask(2, "01 00 02 03"), "silence");
+    let answer = board.call(&format!("packet 256 {}", shown[0]));
+    assert_eq!(answer, format!("response {}", shown[1]));
+    let block = "FF 01 FD 01 04 05 FF 02 FE 02 40 51 68";
+    assert!(page.contains(&format!("`{block}` reports")));
+    let response = packet(ZERO_ID, PASSWORD, 6, block);
+    let listing = board.call(&format!("list {response}"));
+    assert_eq!(listing, shown[2..].join("|"));
+}
+
+/// Each call of a list with the section of the page that has its refusals.
+const SECTIONS: [(&str, &str); 6] = [
+    ("setup", "Setting up a board"),
+    ("packet", "A packet"),
+    ("measure", "A measurement"),
+    ("write", "The tool writes a request"),
+    ("read", "The tool reads a response"),
+    ("list", "The listing of a response"),
+];
+
+/// A call list cannot describe what 41 refuses.
+const NO_LIST: u8 = 41;
+
+fn listed_refusals(section: &str) -> Vec<u8> {
+    let rows = table(section, "No.").into_iter();
+    rows.map(|cells| cells[0].parse().expect("a number"))
+        .collect()
+}
+
+#[test]
+fn refusals_are_in_the_order_of_the_checks() {
+    for (call, section) in SECTIONS {
+        let mut expected = tally::refusals(call).to_vec();
+        if call == "write" {
+            let place = expected.iter().position(|number| *number == 42);
+            expected.insert(place.expect("the number after it"), NO_LIST);
+        }
+        assert_eq!(listed_refusals(section), expected, "{section}");
+    }
+}
+
+#[test]
+fn refusals_are_those_that_occur() {
+    let mut occurred = BTreeSet::new();
+    let mut session = Session::new();
+    let edges = edges::list().into_iter().map(|entry| entry.line);
+    for line in edges.chain(generate::list(1, 20_000)) {
+        let answer = session.line(line.as_bytes()).unwrap_or_default();
+        let number = answer.strip_prefix("refused").map(|rest| rest[1..].parse());
+        if let (Some(number), Some(call)) = (number, line.split(' ').next()) {
+            occurred.insert((call.to_string(), number.expect("a number")));
+        }
+    }
+    let mut listed = BTreeSet::new();
+    for (call, section) in SECTIONS {
+        let numbers = listed_refusals(section).into_iter();
+        let numbers = numbers.filter(|number| *number != NO_LIST);
+        listed.extend(numbers.map(|number| (call.to_string(), number)));
+    }
+    assert_eq!(listed, occurred);
+}
