@@ -144,23 +144,22 @@ fn lowest() -> Entry
 fn entry_at(schedule: Schedule, day: u8, period: u8) -> Entry
     ensures { λ r. ⌜ r ≡ entryAt schedule day period ⌝ }
 {
-    if !has_entry(day, period) {
-        return lowest();
-    }
     let entries = schedule.entries;
-    let place = place_of(day, period);
-    entries[place]
+    if has_entry(day, period) {
+        let place = place_of(day, period);
+        return entries[place];
+    }
+    lowest()
 }
 
 fn with_entry(entries: [Entry; 28], day: u8, period: u8, new: Entry) -> [Entry; 28]
     ensures { λ r. ⌜ r ≡ withEntry entries day period new ⌝ }
 {
-    if !has_entry(day, period) {
-        return entries;
-    }
     let mut all = entries;
-    let place = place_of(day, period);
-    all[place] = new;
+    if has_entry(day, period) {
+        let place = place_of(day, period);
+        all[place] = new;
+    }
     all
 }
 
