@@ -24,7 +24,7 @@ use Rattle.block.specs.Request.{commands, onlyReads}
 use Rattle.block.proofs.AllReads.{other-named}
 use Rattle.board.specs.Answering.{Leaves, answered, answeredAs, inIdentity, judged, judgedBy, refusedWith, requestChecks, respondedIn, respondedWith, responseOf, scopeOf}
 use Rattle.model.specs.Commands.{run}
-use Rattle.commands.specs.Draft.{blank, exceeded, extended, ranBehind, ranBlock, ranOf, runReportsIn, taken}
+use Rattle.commands.specs.Draft.{blank, exceeded, extended, runFrom, runBlock, runResult, runReportsIn, taken}
 use Rattle.model.specs.Record.{passwordOf, setUp, startBoard, withParameters}
 use Rattle.model.specs.Step.{Call, Outcome, Request, Steps, step, outcomeOf, isDiscovery, wrongPassword, malformed, discoveryWrites, requestOf, requestRefusals}
 use Rattle.model.specs.declared.Answer.{Answer}
@@ -34,7 +34,7 @@ use Rattle.model.specs.declared.Parameters.{Parameters}
 use Rattle.model.specs.declared.Stepped.{Stepped}
 use Rattle.framing.specs.declared.Check.{Check}
 use Rattle.board.specs.declared.packets.Judged.{Judged}
-use Rattle.commands.specs.declared.Ran.{Ran}
+use Rattle.commands.specs.declared.RunResult.{RunResult}
 use Rattle.commands.specs.declared.Scope.{Scope}
 use Rattle.commands.specs.declared.draft.Room.{Room}
 use Rattle.commands.specs.declared.draft.Room.the-variants.{Left, Over}
@@ -53,24 +53,24 @@ pub leaves-as : {result : Stepped} {after : List ℕ} {left right : Outcome} →
 leaves-as e d = leaves e (d .board) (d .answer) (d .buffer)
 
 -- a draft ends within its array
-inside-by : (scope : Scope) (p : Parameters) (decoded : Option (List Command)) {ran : Ran} → ran ≡ ranBehind (ranOf p (exceeded blank)) scope p blank decoded
+inside-by : (scope : Scope) (p : Parameters) (decoded : Option (List Command)) {ran : RunResult} → ran ≡ runFrom (runResult p (exceeded blank)) scope p blank decoded
     → ran .draft .length ≤ length (ran .draft .bytes)
 inside-by scope p none e = rw e (omega arith)
 inside-by scope p (some cs) e = rw e (by-room (taken blank (runReportsIn scope p cs)) refl)
   where
     by-room : (yes : Bool) → taken blank (runReportsIn scope p cs) ≡ yes
-        → cond yes (ranOf (run p cs) (extended blank (runReportsIn scope p cs))) (ranOf p (exceeded blank)) .draft .length
-        ≤ length (cond yes (ranOf (run p cs) (extended blank (runReportsIn scope p cs))) (ranOf p (exceeded blank)) .draft .bytes)
+        → cond yes (runResult (run p cs) (extended blank (runReportsIn scope p cs))) (runResult p (exceeded blank)) .draft .length
+        ≤ length (cond yes (runResult (run p cs) (extended blank (runReportsIn scope p cs))) (runResult p (exceeded blank)) .draft .bytes)
     by-room true e =
         let room : 0 + length (encodeReports 0 (runReportsIn scope p cs)) ≤ length (blank .bytes) =
         leb-true (0 + length (encodeReports 0 (runReportsIn scope p cs))) (length (blank .bytes)) (both-true (every encodableReport (runReportsIn scope p cs)) _ e .1) in
         rw (length-overwrite (blank .bytes) 0 (encodeReports 0 (runReportsIn scope p cs)) room) room
     by-room false e = omega arith
 
-pub ran-inside : (scope : Scope) (p : Parameters) (function : ℕ) (block : List ℕ) {ran : Ran} → ran ≡ ranBlock scope p function block → ran .draft .length ≤ length (ran .draft .bytes)
+pub ran-inside : (scope : Scope) (p : Parameters) (function : ℕ) (block : List ℕ) {ran : RunResult} → ran ≡ runBlock scope p function block → ran .draft .length ≤ length (ran .draft .bytes)
 ran-inside scope p function block e = inside-by scope p (commands function block) e
 
-module _ (ran : Ran) (r : Request) (buffer : List ℕ) where
+module _ (ran : RunResult) (r : Request) (buffer : List ℕ) where
   pub responded-over : ran .draft .room ≡ Over → respondedWith ran r buffer ≡ refusedWith 12 r buffer
   responded-over e = ap (λ (room : Room). respondedIn room ran r buffer) e
 

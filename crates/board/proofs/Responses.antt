@@ -28,14 +28,14 @@ use Rattle.store.specs.Rows.{rows, indexIn, known}
 use Rattle.store.specs.Sound as stored
 use Rattle.board.specs.Answering.{answered, answeredAs, judgedBy, refusedWith, requestChecks, respondedWith, responded, scopeOf}
 use Rattle.model.specs.Commands.{afterCommand, reported, run, runReports, discovered, discoverReports}
-use Rattle.commands.specs.Draft.{blank, taken, extended, exceeded, reportedIn, runReportsIn, selected, ranOf, ranBehind}
+use Rattle.commands.specs.Draft.{blank, taken, extended, exceeded, reportedIn, runReportsIn, selected, runResult, runFrom}
 use Rattle.model.specs.Record.{sound, micra, withParameters}
 use Rattle.model.specs.Conditions.{otherThanReads}
 use Rattle.model.specs.Step.{Request, isDiscovery, decoded, reportsOf, malformed, longResponse, requestRefusals, Outcome, outcomeOf, nextBoard, answerWith, outcomeBy}
 use Rattle.model.specs.declared.Answer.the-variants.{Silence, Response}
 use Rattle.model.specs.declared.Board.{Board}
 use Rattle.model.specs.declared.Parameters.{Parameters}
-use Rattle.commands.specs.declared.Ran.{Ran}
+use Rattle.commands.specs.declared.RunResult.{RunResult}
 use Rattle.commands.specs.declared.Scope.{Scope}
 use Rattle.commands.specs.declared.Scope.the-variants.{All, Identity}
 use Rattle.model.proofs.Changed.{read-keeps, values-reported}
@@ -155,8 +155,8 @@ writing size block next r buffer =
     cond (eqb size 0) (outcomeOf next Silence buffer) (cond (writable (sent r block) buffer) (sending next r block buffer) (refusedWith 12 r buffer))
 
 -- and what it has after the commands: their reports, or the parameters as they were
-abbrev ranFor : Bool → List Report → Parameters → Request → Ran
-ranFor fit reports next r = cond fit (ranOf next (extended blank reports)) (ranOf (r .board .parameters) (exceeded blank))
+abbrev ranFor : Bool → List Report → Parameters → Request → RunResult
+ranFor fit reports next r = cond fit (runResult next (extended blank reports)) (runResult (r .board .parameters) (exceeded blank))
 
 taken-blank : (reports : List Report) → every encodableReport reports ≡ true → taken blank reports ≡ leb (length (encodeReports 0 reports)) 232
 taken-blank reports encodable = λ i. encodable i && leb (zero-add (length (encodeReports 0 reports)) i) (length-replicate {A = ℕ} 232 0 i)
@@ -164,22 +164,22 @@ taken-blank reports encodable = λ i. encodable i && leb (zero-add (length (enco
 written-block : (bytes : List ℕ) → take (0 + length bytes) (overwrite (replicate 232 0) 0 bytes) ≡ bytes
 written-block bytes = take-at bytes (drop (0 + length bytes) (replicate 232 0)) (0 + length bytes) (sym (zero-add (length bytes)))
 
--- refusals behind others come after them
+-- refusals after others come after them
 either :
-    (applies : Bool) (number : ℕ) (rest behind : Option ℕ)
-    → cond applies (some number) (orElse rest behind) ≡ orElse (cond applies (some number) rest) behind
+    (applies : Bool) (number : ℕ) (rest remaining : Option ℕ)
+    → cond applies (some number) (orElse rest remaining) ≡ orElse (cond applies (some number) rest) remaining
 unfolding orElse
-either true number rest behind = refl
-either false number rest behind = refl
+either true number rest remaining = refl
+either false number rest remaining = refl
 
 join :
-    {Call : Type 0} (rows behind : List (Refusal Call)) (call : Call)
-    → firstRefusal (rows ++ behind) call ≡ orElse (firstRefusal rows call) (firstRefusal behind call)
+    {Call : Type 0} (rows remaining : List (Refusal Call)) (call : Call)
+    → firstRefusal (rows ++ remaining) call ≡ orElse (firstRefusal rows call) (firstRefusal remaining call)
 unfolding firstRefusal orElse
-join [] behind call = refl
-join (row ∷ rows) behind call =
-    ap (cond (row .applies call) (some (row .number))) (join rows behind call)
-    ∙ either (row .applies call) (row .number) (firstRefusal rows call) (firstRefusal behind call)
+join [] remaining call = refl
+join (row ∷ rows) remaining call =
+    ap (cond (row .applies call) (some (row .number))) (join rows remaining call)
+    ∙ either (row .applies call) (row .number) (firstRefusal rows call) (firstRefusal remaining call)
 
 some-commands : (o : Option (List Command)) → not (isSome o) ≡ false → (cs : List Command) × (o ≡ some cs)
 some-commands none h = let impossible : _≡_ {A = ℕ} 0 1 = cc in absurd (omega arith)
@@ -256,7 +256,7 @@ module _ (r : Request) (buffer : List ℕ) (legal : sound (r .board) ≡ true) (
         let said : List Report = runReportsIn scope (r .board .parameters) cs in
         let encodable : every encodableReport said ≡ true =
         encodable-reports scope cs (r .board .parameters) parameters-fit (low-bytes (r .frame .function) (r .frame .block) cs e) in
-        ap (λ (o : Option (List Command)). respondedWith (ranBehind (ranOf (r .board .parameters) (exceeded blank)) scope (r .board .parameters) blank o) r buffer) e
+        ap (λ (o : Option (List Command)). respondedWith (runFrom (runResult (r .board .parameters) (exceeded blank)) scope (r .board .parameters) blank o) r buffer) e
         ∙ ap (λ (fit : Bool). respondedWith (ranFor fit said (run (r .board .parameters) cs) r) r buffer) (taken-blank said encodable)
         ∙ run-by said (run (r .board .parameters) cs) (leb (length (encodeReports 0 said)) 232) refl
         ∙ sym (defined said (run (r .board .parameters) cs) reports next)

@@ -10,14 +10,14 @@ use Rattle.octets.specs.Octets.{overwrite}
 use Rattle.framing.specs.Frame.{Frame, frame, packetOf}
 use Rattle.framing.specs.Packet.{writable}
 use Rattle.framing.specs.Refusal.{Refusal, firstRefusal}
-use Rattle.commands.specs.Draft.{ranBlock}
+use Rattle.commands.specs.Draft.{runBlock}
 use Rattle.model.specs.Record.{withParameters}
 use Rattle.model.specs.Step.{Request, Outcome, outcomeOf, isDiscovery, requestRefusals}
 use Rattle.model.specs.declared.Answer.the-variants.{Refused, Silence, Response}
 use Rattle.model.specs.declared.Stepped.{Stepped}
 use Rattle.board.specs.declared.packets.Judged.{Judged}
 use Rattle.board.specs.declared.packets.Judged.the-variants.{Refused as No, Passed as Yes}
-use Rattle.commands.specs.declared.Ran.{Ran}
+use Rattle.commands.specs.declared.RunResult.{RunResult}
 use Rattle.commands.specs.declared.Scope.{Scope}
 use Rattle.commands.specs.declared.Scope.the-variants.{All, Identity}
 use Rattle.commands.specs.declared.draft.Room.{Room}
@@ -34,10 +34,10 @@ abbrev pub refusedWith : ℕ → Request → List ℕ → Outcome
 refusedWith number r buffer = outcomeOf (r .board) (Refused number) buffer
 
 -- the response to commands that were run
-abbrev pub responseOf : Ran → Request → Frame
+abbrev pub responseOf : RunResult → Request → Frame
 responseOf ran r = frame (r .board .id) (r .frame .password) 0x06 (take (ran .draft .length) (ran .draft .bytes))
 
-abbrev pub respondedIn : Room → Ran → Request → List ℕ → Outcome
+abbrev pub respondedIn : Room → RunResult → Request → List ℕ → Outcome
 respondedIn Over ran r buffer = refusedWith 12 r buffer
 respondedIn Left ran r buffer =
     cond (eqb (ran .draft .length) 0) (outcomeOf (withParameters (r .board) (ran .parameters)) Silence buffer)
@@ -45,11 +45,11 @@ respondedIn Left ran r buffer =
     (outcomeOf (withParameters (r .board) (ran .parameters)) (Response (length (packetOf (responseOf ran r)))) (overwrite buffer 0 (packetOf (responseOf ran r))))
     (refusedWith 12 r buffer))
 
-abbrev pub respondedWith : Ran → Request → List ℕ → Outcome
+abbrev pub respondedWith : RunResult → Request → List ℕ → Outcome
 respondedWith ran r buffer = respondedIn (ran .draft .room) ran r buffer
 
 abbrev pub responded : Scope → Request → List ℕ → Outcome
-responded scope r buffer = respondedWith (ranBlock scope (r .board .parameters) (r .frame .function) (r .frame .block)) r buffer
+responded scope r buffer = respondedWith (runBlock scope (r .board .parameters) (r .frame .function) (r .frame .block)) r buffer
 
 -- the refusals of a request but the last, 12, which is its response's
 abbrev pub requestChecks : List (Refusal Request)

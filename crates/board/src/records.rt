@@ -22,7 +22,7 @@ ghost use Rattle.framing.specs.Refusal.{checked};
 ghost use Rattle.model.specs.Measurement.{MeasuresBoard, measureCall};
 ghost use Rattle.model.specs.Record.{SetsUp, micra, parametersOf, setUp, sound, startBoard, unset, withParameters};
 
-fn in_sixteen(bytes: &[u8]) -> [u8; 16]
+fn padded_id(bytes: &[u8]) -> [u8; 16]
     requires { ⌜ length (now bytes) ≡ 16 ⌝ }
     ensures { λ r. ⌜ r ≡ now (bytes .entry) ⌝ }
 {
@@ -31,7 +31,7 @@ fn in_sixteen(bytes: &[u8]) -> [u8; 16]
     array
 }
 
-fn in_eight(bytes: &[u8]) -> [u8; 8]
+fn padded_password(bytes: &[u8]) -> [u8; 8]
     requires { ⌜ length (now bytes) ≤ 8 ⌝ }
     ensures { λ r. ⌜ r ≡ now (bytes .entry) ++ replicate (8 - length (now (bytes .entry))) 0 ⌝ }
 {
@@ -55,8 +55,8 @@ fn start(id: &[u8], password: &[u8], mode: u8) -> Board
     requires { ⌜ (length (now id) ≡ 16) × (length (now password) ≤ 8) ⌝ }
     ensures { λ r. ⌜ r ≡ startBoard (setUp (now (id .entry)) (now (password .entry)) mode) ⌝ }
 {
-    let own = in_sixteen(id);
-    let secret = in_eight(password);
+    let own = padded_id(id);
+    let secret = padded_password(password);
     Board {
         id: own,
         password: secret,
@@ -121,7 +121,7 @@ pub(crate) fn check_record(board: Board) -> Check
     let Check::Passed = checks::check_id(&id) else {
         return Check::Failed;
     };
-    let size = octets::wide(board.size);
+    let size = octets::to_usize(board.size);
     if 8 < size {
         return Check::Failed;
     }
@@ -153,7 +153,7 @@ pub(crate) fn with_parameters(board: Board, parameters: Parameters) -> Board
     }
 }
 
-fn number_of(measurement: Measurement) -> u8
+fn refusal_number(measurement: Measurement) -> u8
     ensures { λ r. ⌜ r ≡ refusalOf measurement ⌝ }
 {
     match measurement {
@@ -178,7 +178,7 @@ pub(crate) fn measure(board: Board, number: u16, value: &[u8]) -> Answered
     let Measurement::Accepted = answer else {
         return Answered {
             board,
-            verdict: Verdict::Refused(number_of(answer)),
+            verdict: Verdict::Refused(refusal_number(answer)),
         };
     };
     let store = measured.store;

@@ -13,7 +13,7 @@ use Rattle.store.specs.Layout.{placesFrom}
 use Rattle.store.specs.Rows.{rows, indexIn}
 use Rattle.store.specs.Sets.{printable, firstAfter, firstBefore}
 use Rattle.store.specs.Sound.{soundRows}
-use Rattle.store.specs.Start.{lowest, startValue, startRooms, start}
+use Rattle.store.specs.Start.{lowest, startValue, startSlots, start}
 use Rattle.schedule.specs.Entries.{allLegal}
 use Rattle.model.specs.Commands.{afterCommand, reported, run, runReports, discovered, discoverReports}
 use Rattle.model.specs.Measurement.{measureRefusals, measureRefusal, measuredBoard}
@@ -27,5 +27,5 @@ use Rattle.claims.specs.Examples.{happened}
 use Rattle.claims.specs.Table.{examples, ExamplesHold}
 
 pub examples-hold : ExamplesHold
-unfolding same sum checksum defaultId allAlphanumeric packetRefusals packetRefusal firstRefusal encodeCommand encodeCommandsFrom encodeReport encodeReports every whole request.items response.items placesFrom rows indexIn printable firstAfter firstBefore soundRows lowest startValue startRooms start afterCommand reported run runReports discovered discoverReports measureRefusals measureRefusal measuredBoard setUpRefusals setUpRefusal setUpBoard sound requestRefusals stepRefusals stepRefusal step commandList hexBytes reportLine reportLines writeRefusals writeRefusal responseRefusals anyResponseRefusals anyResponseRefusal happened examples allLegal
+unfolding same sum checksum defaultId allAlphanumeric packetRefusals packetRefusal firstRefusal encodeCommand encodeCommandsFrom encodeReport encodeReports every whole request.items response.items placesFrom rows indexIn printable firstAfter firstBefore soundRows lowest startValue startSlots start afterCommand reported run runReports discovered discoverReports measureRefusals measureRefusal measuredBoard setUpRefusals setUpRefusal setUpBoard sound requestRefusals stepRefusals stepRefusal step commandList hexBytes reportLine reportLines writeRefusals writeRefusal responseRefusals anyResponseRefusals anyResponseRefusal happened examples allLegal
 examples-hold = refl

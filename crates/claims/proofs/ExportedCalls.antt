@@ -1,4 +1,4 @@
--- The agreement for the exported calls, from that for the functions behind them.
+-- The agreement for the exported calls, from that for the functions after them.
 use Prim.Native.Nat.{ℕ, _+_, _≤_, _<_}
 use native.Mathlib.Omega.{arith}
 use mathlib.Core.Bool.{Bool, true, false, cond}
@@ -75,11 +75,11 @@ shown text buffer {reply} {after} contract short =
     contract .answered ∙ ap (λ (b : Bool). listedReply (cond b (listed.Length (length text)) listed.NoRoom)) room in
     let held : after ≡ text ++ drop (0 + length text) buffer = contract .held ∙ ap (λ (b : Bool). cond b (overwrite buffer 0 text) buffer) room in
     let size : reply .length ≡ length text = ap (λ (r : Reply). r .length) told in
-    let behind : 0 + length text ≡ reply .length = omega arith in
+    let remaining : 0 + length text ≡ reply .length = omega arith in
     record {
       accepted = ap (λ (r : Reply). r .refusal) told;
       front = (λ i. take (size i) (held i)) ∙ take-at text _ (length text) refl;
-      rest = (λ i. drop (size i) (held i)) ∙ drop-at text _ (length text) refl ∙ ap (λ (n : ℕ). drop n buffer) behind;
+      rest = (λ i. drop (size i) (held i)) ∙ drop-at text _ (length text) refl ∙ ap (λ (n : ℕ). drop n buffer) remaining;
     }
 
 in-numbers : {r : Request} {packet : List ℕ} → ResponseRead r packet → ResponseTold r packet

@@ -20,44 +20,44 @@ abbrev wellFormed : ℕ → List ℕ → Bool
 wellFormed page block = isSome (whole (items 1 page 1 block 0))
 
 -- a value that is there in full
-behind-value :
+after-value :
     (page low n : ℕ) (value rest : List ℕ) → n ≡ length value
     → isSome (whole (withValue (commandOf 1 page low) n (value ++ rest) (items 1 page 1 (value ++ rest) n))) ≡ wellFormed page rest
 unfolding whole
-behind-value page low n value rest e =
+after-value page low n value rest e =
     let fits : n ≤ length (value ++ rest) = simp length-append (omega arith) in
     rw (le-leb n (length (value ++ rest)) fits)
     (some-more (commandOf 1 page low (take n (value ++ rest))) (whole (items 1 page 1 (value ++ rest) n))
     ∙ ap (λ r. isSome (whole r)) (skip 1 page 1 (value ++ rest) n ∙ ap (λ (l : List ℕ). items 1 page 1 l 0) (drop-at value rest n (sym e))))
 
-behind-parameter :
+after-parameter :
     (page low : ℕ) (value rest : List ℕ) → leb low 0xFB ≡ true → wellFormed page (parameter 0 low value ++ rest) ≡ wellFormed page rest
 unfolding items
-behind-parameter page low value rest low-byte = by-length (eqb (length value) 0) refl
+after-parameter page low value rest low-byte = by-length (eqb (length value) 0) refl
   where
     by-length : (empty : Bool) → eqb (length value) 0 ≡ empty
         → wellFormed page (cond empty (low ∷ value) (0xFE ∷ length value ∷ low ∷ value) ++ rest) ≡ wellFormed page rest
-    by-length true e = rw low-byte (behind-value page low 0 value rest (sym (eqb-true (length value) 0 e)))
-    by-length false e = rw (e, low-byte) (behind-value page low (length value) value rest refl)
+    by-length true e = rw low-byte (after-value page low 0 value rest (sym (eqb-true (length value) 0 e)))
+    by-length false e = rw (e, low-byte) (after-value page low (length value) value rest refl)
 
-behind-page : (page wanted : ℕ) (rest : List ℕ) → wellFormed page (change 0xFF page wanted ++ rest) ≡ wellFormed wanted rest
+after-page : (page wanted : ℕ) (rest : List ℕ) → wellFormed page (change 0xFF page wanted ++ rest) ≡ wellFormed wanted rest
 unfolding items
-behind-page page wanted rest = by-page (eqb page wanted) refl
+after-page page wanted rest = by-page (eqb page wanted) refl
   where
     by-page : (same : Bool) → eqb page wanted ≡ same → wellFormed page (cond same [] (0xFF ∷ wanted ∷ []) ++ rest) ≡ wellFormed wanted rest
     by-page true e = ap (λ (h : ℕ). wellFormed h rest) (eqb-true page wanted e)
     by-page false e = refl
 
-behind-read : (page : ℕ) (c : Command) (rest : List ℕ) → encodableCommand c ≡ true → c .function ≡ 1
+after-read : (page : ℕ) (c : Command) (rest : List ℕ) → encodableCommand c ≡ true → c .function ≡ 1
     → wellFormed page (encodeCommand page 1 c ++ rest) ≡ wellFormed (c .page) rest
 unfolding encodeCommand
-behind-read page c rest encodable reads =
+after-read page c rest encodable reads =
     let length-fits = both-true (isFunction (c .function)) (encodableLength (defaultLength (c .function)) (c .low) (length (c .value))) encodable .1 in
     let low-byte = both-true (leb (c .low) 0xFB) (leb (length (c .value)) 255) (both-true _ (leb (defaultLength (c .function)) (length (c .value))) length-fits .0) .0 in
     ap (λ (f : ℕ). wellFormed page ((change 0xFC 1 f ++ change 0xFF page (c .page) ++ parameter (defaultLength f) (c .low) (c .value)) ++ rest)) reads
     ∙ ap (wellFormed page) (append-assoc (change 0xFF page (c .page)) (parameter 0 (c .low) (c .value)) rest)
-    ∙ behind-page page (c .page) (parameter 0 (c .low) (c .value) ++ rest)
-    ∙ behind-parameter (c .page) (c .low) (c .value) rest low-byte
+    ∙ after-page page (c .page) (parameter 0 (c .low) (c .value) ++ rest)
+    ∙ after-parameter (c .page) (c .low) (c .value) rest low-byte
 
 all-formed : (page : ℕ) (cs : List Command) → every encodableCommand cs ≡ true → every isRead cs ≡ true → wellFormed page (encodeCommandsFrom page 1 cs) ≡ true
 unfolding every encodeCommandsFrom whole items
@@ -66,7 +66,7 @@ all-formed page (c ∷ cs) encodable reads =
     let forms = both-true (encodableCommand c) (every encodableCommand cs) encodable in
     let read = both-true (isRead c) (every isRead cs) reads in
     let one : c .function ≡ 1 = eqb-true (c .function) 1 (read .0) in
-    behind-read page c (encodeCommandsFrom (c .page) (c .function) cs) (forms .0) one
+    after-read page c (encodeCommandsFrom (c .page) (c .function) cs) (forms .0) one
     ∙ ap (λ (f : ℕ). wellFormed (c .page) (encodeCommandsFrom (c .page) f cs)) one
     ∙ all-formed (c .page) cs (forms .1) (read .1)
 

@@ -48,9 +48,9 @@ shortest =
     ∷ 0x01
     ∷ 0x13 ∷ 0x00 ∷ []
 
--- any other packet with that ID and password: FUNC, data block and sum are `behind` them
+-- any other packet with that ID and password: FUNC, data block and sum are `after` them
 abbrev pub packet : List ℕ → List ℕ
-packet behind = 0xFD ∷ 0xFD ∷ 0x02 ∷ 0x10 ∷ zeroId ++ 0x04 ∷ ones ++ behind
+packet after = 0xFD ∷ 0xFD ∷ 0x02 ∷ 0x10 ∷ zeroId ++ 0x04 ∷ ones ++ after
 
 -- 0063 raised, and 0063 written with 70
 abbrev pub raise : List ℕ

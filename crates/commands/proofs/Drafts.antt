@@ -1,4 +1,4 @@
--- Laws of drafts: reports one behind the other.
+-- Laws of drafts: reports one after the other.
 use Prim.Native.Nat.{ℕ, _+_, _<_, _≤_}
 use native.Mathlib.Omega.{arith}
 use mathlib.Core.Bool.{Bool, true, false, cond, _&&_, and-true, and-false, and-assoc}
@@ -9,7 +9,7 @@ use denote.Enum.Declared.{tagOf}
 use types.Run.{OneOf, miss}
 use lib.ListN.{length, length-append}
 use Rattle.octets.specs.Octets.{overwrite, fits}
-use Rattle.octets.proofs.Overwriting.{length-overwrite, overwrite-behind}
+use Rattle.octets.proofs.Overwriting.{length-overwrite, overwrite-after}
 use Rattle.octets.proofs.Booleans.{both-true}
 use Rattle.block.specs.Command.{Report, reportPage}
 use Rattle.block.specs.Encoding.{encodeReport, encodeReports, lastPage, encodableReport, every}
@@ -21,10 +21,10 @@ use Rattle.block.proofs.RoundTrips.{reports-join, last-page-join}
 use Rattle.commands.specs.declared.draft.Cursor.{Cursor}
 use Rattle.commands.specs.declared.draft.Draft.{Draft}
 use Rattle.commands.specs.declared.draft.Room.the-variants.{Left}
-use Rattle.commands.specs.Draft.{cursorBehind, cursorOver, draftOf, draftAt, taken, extended, exceeded, drafted}
+use Rattle.commands.specs.Draft.{cursorAfter, cursorOver, draftOf, draftAt, taken, extended, exceeded, drafted}
 
 -- a report that is not written
-pub without-room : (cursor : Cursor) (page : ℕ) (answer : Written) → OneOf (1 ∷ 2 ∷ []) (tagOf Written.the-type answer) → cursorBehind cursor page answer ≡ cursorOver cursor
+pub without-room : (cursor : Cursor) (page : ℕ) (answer : Written) → OneOf (1 ∷ 2 ∷ []) (tagOf Written.the-type answer) → cursorAfter cursor page answer ≡ cursorOver cursor
 without-room cursor page (Until length) h = absurd (miss (1 ∷ 2 ∷ []) 0 tt h)
 without-room cursor page NoRoom h = refl
 without-room cursor page NoEncoding h = refl
@@ -42,7 +42,7 @@ module _ (draft : Draft) (r : Report) where
 module _ (bytes : List ℕ) (cursor : Cursor) where
   -- what the writer left, by whether the report has a form and fits
   written-by :
-      (encodable fit : Bool) (laid : List ℕ) (end page : ℕ) {after : List ℕ} {next : Cursor} → next ≡ cursorBehind cursor page (cond encodable (cond fit (Until end) NoRoom) NoEncoding)
+      (encodable fit : Bool) (laid : List ℕ) (end page : ℕ) {after : List ℕ} {next : Cursor} → next ≡ cursorAfter cursor page (cond encodable (cond fit (Until end) NoRoom) NoEncoding)
       → after ≡ cond (encodable && fit) laid bytes → draftAt after next ≡ cond (encodable && fit) (draftOf laid end page Left) (exceeded (draftAt bytes cursor))
   written-by true true laid end page moved stored = λ i. draftAt (stored i) (moved i)
   written-by true false laid end page moved stored = λ i. draftAt (stored i) (moved i)
@@ -50,14 +50,14 @@ module _ (bytes : List ℕ) (cursor : Cursor) where
 
   pub one-written :
       (r : Report) {answer : Written} {after : List ℕ} {next : Cursor}
-      → Writes bytes (cursor .length) (encodableReport r) (encodeReport (cursor .page) r) answer after → next ≡ cursorBehind cursor (reportPage r) answer
+      → Writes bytes (cursor .length) (encodableReport r) (encodeReport (cursor .page) r) answer after → next ≡ cursorAfter cursor (reportPage r) answer
       → draftAt after next ≡ drafted (draftAt bytes cursor) (r ∷ [])
   unfolding lastPage
   one-written r done moved =
-      written-by (encodableReport r) (fits bytes (cursor .length) (encodeReport (cursor .page) r)) _ _ _ (moved ∙ ap (cursorBehind cursor (reportPage r)) (done .answered)) (done .stored)
+      written-by (encodableReport r) (fits bytes (cursor .length) (encodeReport (cursor .page) r)) _ _ _ (moved ∙ ap (cursorAfter cursor (reportPage r)) (done .answered)) (done .stored)
       ∙ rw (taken-one (draftAt bytes cursor) r, encoded-one (draftAt bytes cursor) r)
 
--- reports behind reports
+-- reports after reports
 every-join : (rs qs : List Report) → every encodableReport (rs ++ qs) ≡ (every encodableReport rs && every encodableReport qs)
 unfolding every
 every-join [] qs = refl
@@ -95,7 +95,7 @@ module _ (draft : Draft) (rs qs : List Report) where
   unfolding first second
   extended-join h =
       λ i. draftOf
-      ((ap (overwrite (draft .bytes) (draft .length)) bytes-join ∙ sym (overwrite-behind (draft .bytes) (draft .length) first second (room h))) i)
+      ((ap (overwrite (draft .bytes) (draft .length)) bytes-join ∙ sym (overwrite-after (draft .bytes) (draft .length) first second (room h))) i)
       (ends-join i) (last-page-join (draft .page) rs qs i) Left
 
   over-by-form : (form : Bool) → every encodableReport rs ≡ form → taken draft rs ≡ false → taken draft (rs ++ qs) ≡ false

@@ -14,14 +14,14 @@ use Rattle.block.specs.Command.{Command, Report}
 use Rattle.block.specs.Encoding.{encodeReports, lastPage, encodableReport, every}
 use Rattle.model.specs.Commands.{afterCommand, run}
 use Rattle.model.specs.declared.Parameters.{Parameters}
-use Rattle.commands.specs.declared.Ran.{Ran}
+use Rattle.commands.specs.declared.RunResult.{RunResult}
 use Rattle.commands.specs.declared.Scope.{Scope}
 use Rattle.commands.specs.declared.draft.Draft.{Draft}
 use Rattle.commands.specs.declared.draft.Room.the-variants.{Left, Over}
-use Rattle.commands.specs.Draft.{draftOf, taken, extended, exceeded, drafted, reportedIn, runReportsIn, ranOf, ranBehind}
+use Rattle.commands.specs.Draft.{draftOf, taken, extended, exceeded, drafted, reportedIn, runReportsIn, runResult, runFrom}
 use Rattle.commands.proofs.Drafts.{taken-join, extended-join, over-join}
 
--- a draft that reports can be put behind
+-- a draft that reports can be put after
 pub record Settled (draft : Draft) : Type 0 where
   pub whole : length (draft .bytes) ≡ 232
   pub left : draft .room ≡ Left
@@ -49,7 +49,7 @@ module _ (draft : Draft) (settled : Settled draft) where
   drafted-as (first ∷ rest) = refl
 
   -- the block ends
-  pub ran-none : (stopped : Ran) (scope : Scope) (p : Parameters) → ranBehind stopped scope p draft (some []) ≡ ranOf p draft
+  pub ran-none : (stopped : RunResult) (scope : Scope) (p : Parameters) → runFrom stopped scope p draft (some []) ≡ runResult p draft
   unfolding runReportsIn run
   ran-none stopped scope p = rw (taken-none, extended-none)
 
@@ -61,7 +61,7 @@ over-by : (draft : Draft) (reports : List Report) (yes : Bool) {after : Draft} �
 over-by draft reports true e h = cc
 over-by draft reports false e h = refl
 
--- a command is run behind a draft, and others are left
+-- a command is run after a draft, and others are left
 module _
     (scope : Scope) (p : Parameters) (draft : Draft) (settled : Settled draft) (c : Command) {held : Parameters} {after : Draft} (changed : held ≡ afterCommand p c)
     (reported : after ≡ drafted draft (reportedIn scope held c))
@@ -87,23 +87,23 @@ module _
         record { whole = rw (kept h) (whole ∙ settled .whole); left = h; inside = rw (kept h) (omega (arith, whole)) }
 
     -- the rest from here gives what the whole gives
-    turned : (stopped : Ran) (rest : Option (List Command)) → taken draft said ≡ true
-        → ranBehind stopped scope p draft (Option·map (λ (cs : List Command). c ∷ cs) rest) ≡ ranBehind stopped scope (afterCommand p c) (extended draft said) rest
+    next-page : (stopped : RunResult) (rest : Option (List Command)) → taken draft said ≡ true
+        → runFrom stopped scope p draft (Option·map (λ (cs : List Command). c ∷ cs) rest) ≡ runFrom stopped scope (afterCommand p c) (extended draft said) rest
     unfolding said runReportsIn run
-    turned stopped none h = refl
-    turned stopped (some cs) h =
+    next-page stopped none h = refl
+    next-page stopped (some cs) h =
         rw (
           taken-join draft said (runReportsIn scope (afterCommand p c) cs) h,
           extended-join draft said (runReportsIn scope (afterCommand p c) cs) h,
         )
 
-    pub turn-left : (stopped : Ran) (rest : Option (List Command)) → after .room ≡ Left
-        → ranBehind stopped scope p draft (Option·map (λ (cs : List Command). c ∷ cs) rest) ≡ ranBehind stopped scope held after rest
-    turn-left stopped rest h = turned stopped rest (all-taken h) ∙ sym (λ i. ranBehind stopped scope (changed i) (kept h i) rest)
+    pub turn-left : (stopped : RunResult) (rest : Option (List Command)) → after .room ≡ Left
+        → runFrom stopped scope p draft (Option·map (λ (cs : List Command). c ∷ cs) rest) ≡ runFrom stopped scope held after rest
+    turn-left stopped rest h = next-page stopped rest (all-taken h) ∙ sym (λ i. runFrom stopped scope (changed i) (kept h i) rest)
 
     -- reports without room stop it
-    pub turn-over : (stopped : Ran) (rest : Option (List Command)) → after .room ≡ Over
-        → ranBehind stopped scope p draft (Option·map (λ (cs : List Command). c ∷ cs) rest) ≡ stopped
+    pub turn-over : (stopped : RunResult) (rest : Option (List Command)) → after .room ≡ Over
+        → runFrom stopped scope p draft (Option·map (λ (cs : List Command). c ∷ cs) rest) ≡ stopped
     unfolding said runReportsIn run
     turn-over stopped none h = refl
     turn-over stopped (some cs) h =

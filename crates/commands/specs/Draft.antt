@@ -17,7 +17,7 @@ use Rattle.commands.specs.declared.draft.Cursor.{Cursor}
 use Rattle.commands.specs.declared.draft.Draft.{Draft}
 use Rattle.commands.specs.declared.draft.Room.{Room}
 use Rattle.commands.specs.declared.draft.Room.the-variants.{Left, Over}
-use Rattle.commands.specs.declared.Ran.{Ran}
+use Rattle.commands.specs.declared.RunResult.{RunResult}
 use Rattle.commands.specs.declared.Scope.{Scope}
 use Rattle.commands.specs.declared.Scope.the-variants.{All, Identity}
 
@@ -33,17 +33,17 @@ draftAt bytes cursor = draftOf bytes (cursor .length) (cursor .page) (cursor .ro
 abbrev pub cursorOver : Cursor → Cursor
 cursorOver cursor = cursorOf (cursor .length) (cursor .page) Over
 
--- the cursor behind a report, by what the report's writer answered
-abbrev pub cursorBehind : Cursor → ℕ → Written → Cursor
-cursorBehind cursor page (Until length) = cursorOf length page Left
-cursorBehind cursor page NoRoom = cursorOver cursor
-cursorBehind cursor page NoEncoding = cursorOver cursor
+-- the cursor after a report, by what the report's writer answered
+abbrev pub cursorAfter : Cursor → ℕ → Written → Cursor
+cursorAfter cursor page (Until length) = cursorOf length page Left
+cursorAfter cursor page NoRoom = cursorOver cursor
+cursorAfter cursor page NoEncoding = cursorOver cursor
 
--- whether reports have a form each, and fit behind what is written
+-- whether reports have a form each, and fit after what is written
 abbrev pub taken : Draft → List Report → Bool
 taken draft reports = every encodableReport reports && fits (draft .bytes) (draft .length) (encodeReports (draft .page) reports)
 
--- the reports behind what is written
+-- the reports after what is written
 abbrev pub extended : Draft → List Report → Draft
 extended draft reports =
     draftOf (overwrite (draft .bytes) (draft .length) (encodeReports (draft .page) reports))
@@ -76,15 +76,15 @@ runReportsIn scope parameters [] = []
 runReportsIn scope parameters (c ∷ cs) =
     reportedIn scope (afterCommand parameters c) c ++ runReportsIn scope (afterCommand parameters c) cs
 
-abbrev pub ranOf : Parameters → Draft → Ran
-ranOf parameters draft = record { parameters = parameters; draft = draft }
+abbrev pub runResult : Parameters → Draft → RunResult
+runResult parameters draft = record { parameters = parameters; draft = draft }
 
--- commands behind what is written; where there are none to run, or their reports are not taken, `stopped`
-abbrev pub ranBehind : Ran → Scope → Parameters → Draft → Option (List Command) → Ran
-ranBehind stopped scope parameters draft none = stopped
-ranBehind stopped scope parameters draft (some cs) =
-    cond (taken draft (runReportsIn scope parameters cs)) (ranOf (run parameters cs) (extended draft (runReportsIn scope parameters cs))) stopped
+-- commands after what is written; where there are none to run, or their reports are not taken, `stopped`
+abbrev pub runFrom : RunResult → Scope → Parameters → Draft → Option (List Command) → RunResult
+runFrom stopped scope parameters draft none = stopped
+runFrom stopped scope parameters draft (some cs) =
+    cond (taken draft (runReportsIn scope parameters cs)) (runResult (run parameters cs) (extended draft (runReportsIn scope parameters cs))) stopped
 
 -- all commands of a data block; a block that cannot be answered leaves the parameters as they were
-abbrev pub ranBlock : Scope → Parameters → ℕ → List ℕ → Ran
-ranBlock scope parameters function block = ranBehind (ranOf parameters (exceeded blank)) scope parameters blank (commands function block)
+abbrev pub runBlock : Scope → Parameters → ℕ → List ℕ → RunResult
+runBlock scope parameters function block = runFrom (runResult parameters (exceeded blank)) scope parameters blank (commands function block)

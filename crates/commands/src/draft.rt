@@ -3,7 +3,7 @@ use encoding::Written;
 ghost use mathlib.Core.List.{[], _∷_};
 ghost use mathlib.Core.Path.{_≡_};
 ghost use Rattle.block.specs.Command.{held, unknown};
-ghost use Rattle.commands.specs.Draft.{cursorBehind, draftAt, drafted};
+ghost use Rattle.commands.specs.Draft.{cursorAfter, draftAt, drafted};
 
 // Whether all reports had room.
 pub enum Room {
@@ -11,7 +11,7 @@ pub enum Room {
     Over,
 }
 
-// The first `length` of `bytes` are written, with `page` in force behind them.
+// The first `length` of `bytes` are written, with `page` in force after them.
 pub struct Draft {
     pub bytes: [u8; 232],
     pub length: usize,
@@ -26,9 +26,9 @@ pub(crate) struct Cursor {
     pub room: Room,
 }
 
-// Behind a report on `page`, or where the draft ends, without room for it.
-fn behind(cursor: Cursor, page: u8, written: Written) -> Cursor
-    ensures { λ r. ⌜ r ≡ cursorBehind cursor page written ⌝ }
+// After a report on `page`, or where the draft ends, without room for it.
+fn after(cursor: Cursor, page: u8, written: Written) -> Cursor
+    ensures { λ r. ⌜ r ≡ cursorAfter cursor page written ⌝ }
 {
     let Written::Until(length) = written else {
         return Cursor {
@@ -55,7 +55,7 @@ pub(crate) fn write_value(
     ensures { λ r. ⌜ draftAt (now (bytes .exit)) r ≡ drafted (draftAt (now (bytes .entry)) cursor) (held page low (now (value .entry)) ∷ []) ⌝ }
 {
     let written = encoding::write_report(bytes, cursor.length, cursor.page, page, low, value);
-    behind(cursor, page, written)
+    after(cursor, page, written)
 }
 
 // Writes the report of an unknown parameter.
@@ -63,5 +63,5 @@ pub(crate) fn write_unknown(bytes: &mut [u8], cursor: Cursor, page: u8, low: u8)
     ensures { λ r. ⌜ draftAt (now (bytes .exit)) r ≡ drafted (draftAt (now (bytes .entry)) cursor) (unknown page low ∷ []) ⌝ }
 {
     let written = encoding::write_unknown(bytes, cursor.length, cursor.page, page, low);
-    behind(cursor, page, written)
+    after(cursor, page, written)
 }

@@ -13,7 +13,7 @@ ghost use Rattle.block.specs.Command.{commandOf, parameterNumber};
 ghost use Rattle.store.specs.Operations.{answer};
 ghost use Rattle.schedule.specs.Operations.{answered};
 ghost use Rattle.model.specs.Commands.{afterRow, afterEntry, afterCommand, rowReport, entryReport};
-ghost use Rattle.commands.specs.Draft.{blank, draftAt, drafted, exceeded, ranBlock, ranOf, reportedIn, selected};
+ghost use Rattle.commands.specs.Draft.{blank, draftAt, drafted, exceeded, runBlock, runResult, reportedIn, selected};
 
 // Which parameters are reported: in a discovery only the ID and the unit type.
 pub enum Scope {
@@ -21,7 +21,7 @@ pub enum Scope {
     Identity,
 }
 
-pub struct Ran {
+pub struct RunResult {
     pub parameters: Parameters,
     pub draft: Draft,
 }
@@ -29,7 +29,7 @@ pub struct Ran {
 // The weekly schedule; every other number is a row's or unknown.
 const SCHEDULE: u16 = 0x0077;
 
-fn number_of(page: u8, low: u8) -> u16
+fn parameter_number(page: u8, low: u8) -> u16
     ensures { λ r. ⌜ r ≡ parameterNumber page low ⌝ }
 {
     (page as u16) * 256 + (low as u16)
@@ -40,9 +40,9 @@ fn change_row(store: Store, function: u8, page: u8, low: u8, value: &[u8]) -> St
     ensures { λ r. ⌜ r ≡ afterRow store (commandOf function page low (now (value .entry))) ⌝ }
 {
     match function {
-        2 | 3 => store::write(store, number_of(page, low), value),
-        4 => store::raise(store, number_of(page, low)),
-        5 => store::lower(store, number_of(page, low)),
+        2 | 3 => store::write(store, parameter_number(page, low), value),
+        4 => store::raise(store, parameter_number(page, low)),
+        5 => store::lower(store, parameter_number(page, low)),
         _ => store,
     }
 }
@@ -63,7 +63,7 @@ fn change(parameters: Parameters, function: u8, page: u8, low: u8, value: &[u8])
 {
     let store = parameters.store;
     let schedule = parameters.schedule;
-    if number_of(page, low) == SCHEDULE {
+    if parameter_number(page, low) == SCHEDULE {
         return Parameters {
             store,
             schedule: change_entry(schedule, function, page, low, value),
@@ -87,7 +87,7 @@ fn is_selected(scope: Scope, number: u16) -> bool
     }
 }
 
-// What a command of a row reports, behind what is written.
+// What a command of a row reports, after what is written.
 fn report_row(
     store: Store,
     bytes: &mut [u8],
@@ -99,7 +99,7 @@ fn report_row(
 ) -> Cursor
     ensures { λ r. ⌜ draftAt (now (bytes .exit)) r ≡ drafted (draftAt (now (bytes .entry)) cursor) (rowReport (answer function (parameterNumber page low)) store (commandOf function page low (now (value .entry)))) ⌝ }
 {
-    let number = number_of(page, low);
+    let number = parameter_number(page, low);
     match store::answered_with(function, number) {
         store::Answer::Silence => cursor,
         store::Answer::Unknown => draft::write_unknown(bytes, cursor, page, low),
@@ -109,7 +109,7 @@ fn report_row(
     }
 }
 
-// What a command of the schedule reports, behind what is written.
+// What a command of the schedule reports, after what is written.
 fn report_entry(
     schedule: Schedule,
     bytes: &mut [u8],
@@ -131,7 +131,7 @@ fn report_entry(
     }
 }
 
-// What a command reports of the parameters just after it, behind what is written.
+// What a command reports of the parameters just after it, after what is written.
 fn report(
     scope: Scope,
     parameters: Parameters,
@@ -144,7 +144,7 @@ fn report(
 ) -> Cursor
     ensures { λ r. ⌜ draftAt (now (bytes .exit)) r ≡ drafted (draftAt (now (bytes .entry)) cursor) (reportedIn scope parameters (commandOf function page low (now (value .entry)))) ⌝ }
 {
-    let number = number_of(page, low);
+    let number = parameter_number(page, low);
     if !is_selected(scope, number) {
         return cursor;
     }
@@ -163,8 +163,8 @@ fn report(
 }
 
 // Parameters whose commands are not run.
-fn stopped(parameters: Parameters) -> Ran
-    ensures { λ r. ⌜ r ≡ ranOf parameters (exceeded blank) ⌝ }
+fn stopped(parameters: Parameters) -> RunResult
+    ensures { λ r. ⌜ r ≡ runResult parameters (exceeded blank) ⌝ }
 {
     let draft = Draft {
         bytes: [0u8; 232],
@@ -172,12 +172,12 @@ fn stopped(parameters: Parameters) -> Ran
         page: 0,
         room: Room::Over,
     };
-    Ran { parameters, draft }
+    RunResult { parameters, draft }
 }
 
 // Parameters whose commands are run, with what they report.
-fn finished(parameters: Parameters, bytes: [u8; 232], cursor: Cursor) -> Ran
-    ensures { λ r. ⌜ r ≡ ranOf parameters (draftAt bytes cursor) ⌝ }
+fn finished(parameters: Parameters, bytes: [u8; 232], cursor: Cursor) -> RunResult
+    ensures { λ r. ⌜ r ≡ runResult parameters (draftAt bytes cursor) ⌝ }
 {
     let room = cursor.room;
     let draft = Draft {
@@ -186,12 +186,12 @@ fn finished(parameters: Parameters, bytes: [u8; 232], cursor: Cursor) -> Ran
         page: cursor.page,
         room,
     };
-    Ran { parameters, draft }
+    RunResult { parameters, draft }
 }
 
 // The commands of a block in order. Where their reports have no room, or the block is malformed, nothing has happened.
-pub fn run(scope: Scope, parameters: Parameters, function: u8, bytes: &[u8]) -> Ran
-    ensures { λ r. ⌜ r ≡ ranBlock scope parameters function (now (bytes .entry)) ⌝ }
+pub fn run(scope: Scope, parameters: Parameters, function: u8, bytes: &[u8]) -> RunResult
+    ensures { λ r. ⌜ r ≡ runBlock scope parameters function (now (bytes .entry)) ⌝ }
 {
     let mut rest = bytes;
     let mut page: u8 = 0;
@@ -208,23 +208,32 @@ pub fn run(scope: Scope, parameters: Parameters, function: u8, bytes: &[u8]) -> 
             NextCommand::End => return finished(held, draft, cursor),
             NextCommand::Malformed => return stopped(parameters),
             NextCommand::Command {
-                function: called,
-                page: turned,
+                function: next_function,
+                page: next_page,
                 low,
                 value: from,
-                rest: behind,
+                rest: after,
             } => {
-                let value = block::part(rest, from, behind);
-                held = change(held, called, turned, low, value);
-                cursor = report(scope, held, &mut draft, cursor, called, turned, low, value);
+                let value = block::part(rest, from, after);
+                held = change(held, next_function, next_page, low, value);
+                cursor = report(
+                    scope,
+                    held,
+                    &mut draft,
+                    cursor,
+                    next_function,
+                    next_page,
+                    low,
+                    value,
+                );
                 let room = cursor.room;
                 let Room::Left = room else {
                     return stopped(parameters);
                 };
-                let left = block::part(rest, behind, 0);
+                let left = block::part(rest, after, 0);
                 rest = left;
-                page = turned;
-                in_force = called;
+                page = next_page;
+                in_force = next_function;
             }
         }
     }

@@ -15,23 +15,23 @@ use Rattle.model.specs.declared.Answered.{Answered}
 use Rattle.model.specs.declared.Board.{Board}
 use Rattle.model.specs.declared.Stepped.{Stepped}
 use Rattle.model.proofs.Traced.{trace-noninterference}
-use Rattle.firmware.specs.Controller.{replyOf, Replies, numberOf, setUpKept}
+use Rattle.firmware.specs.Controller.{replyOf, Replies, refusalNumber, setUpResult}
 use Rattle.firmware.specs.Exported.{ExportsFollow, OwnCalled, packetCalled, measureCalled, Run, ended, calledBoth, calledFirst, calledSecond, ownCall, callsOf, endsOf, Told, replied, numbered, ownTold, toldOf, AlikeCalled, DiscoverableCalled, ExportedNoninterference}
-use Rattle.firmware.specs.declared.controller.Kept.{Kept}
+use Rattle.firmware.specs.declared.controller.CallResult.{CallResult}
 use Rattle.firmware.specs.declared.Reply.{Reply}
 
--- the result of the board's function behind an exported call
+-- the result of the board's function after an exported call
 abbrev stepOf : Call → Board → Stepped
 stepOf c next = record { board = next; answer = step c .answer }
 
-abbrev answeredOf : Kept → Option ℕ → Answered
+abbrev answeredOf : CallResult → Option ℕ → Answered
 answeredOf kept refusal = record { board = kept .board; verdict = verdictOf refusal }
 
 step-made : {c : Call} {next : Board} {reply : Reply} {after : List ℕ} → Replies c next reply after → Steps c (stepOf c next) after
 step-made contract = record { board = contract .board; answer = refl; buffer = contract .buffer }
 
-set-up-made : {given : SetUp} {kept : Kept} → kept ≡ setUpKept given → SetsUp given (answeredOf kept (setUpRefusal given))
-set-up-made e = record { answered = refl; made = ap (λ (k : Kept). k .board) e }
+set-up-made : {given : SetUp} {kept : CallResult} → kept ≡ setUpResult given → SetsUp given (answeredOf kept (setUpRefusal given))
+set-up-made e = record { answered = refl; made = ap (λ (k : CallResult). k .board) e }
 
 pub exports-follow : ExportsFollow
 exports-follow =
@@ -47,7 +47,7 @@ exports-follow =
       measure = λ c kept e.
           record {
             result = answeredOf kept (measureRefusal c);
-            contract = record { answered = refl; board = ap (λ (k : Kept). k .board) e };
+            contract = record { answered = refl; board = ap (λ (k : CallResult). k .board) e };
             told = λ i. record { board = kept .board; refusal = e i .refusal };
           };
     }
@@ -58,7 +58,7 @@ own-made {board} (packetCalled packet buffer after {next} reply contract) =
     packetMade packet buffer after (stepOf (call board packet buffer) next) (step-made contract)
 own-made {board} (measureCalled n value kept contract) =
     measurementMade n value (answeredOf kept (measureRefusal (measureCall board n value)))
-    (record { answered = refl; board = ap (λ (k : Kept). k .board) contract })
+    (record { answered = refl; board = ap (λ (k : CallResult). k .board) contract })
 
 made : {first second : Board} → Run first second → Trace first second
 made ended = trace.ended
@@ -91,12 +91,12 @@ same-ends (calledSecond own later) = same-ends later
 -- what is told is what the board's functions returned, in numbers
 inNumbers : Returned → Told
 inNumbers (model.replied reply) = replied (replyOf (reply .answer)) (reply .buffer)
-inNumbers (judged verdict) = numbered (numberOf verdict)
+inNumbers (judged verdict) = numbered (refusalNumber verdict)
 
 own-told : {board next : Board} (own : OwnCalled board next) → ownTold own ≡ inNumbers (ownReturned (own-made own))
 unfolding own-made inNumbers
 own-told (packetCalled packet buffer after reply contract) = ap (λ (r : Reply). replied r after) (contract .answer)
-own-told (measureCalled n value kept contract) = ap (λ (k : Kept). numbered (k .refusal)) contract
+own-told (measureCalled n value kept contract) = ap (λ (k : CallResult). numbered (k .refusal)) contract
 
 bothInNumbers : List Returned × List Returned → List Told × List Told
 bothInNumbers r = (map inNumbers (r .0), map inNumbers (r .1))

@@ -11,7 +11,7 @@ use Rattle.model.specs.declared.Board.{Board}
 use Rattle.model.specs.declared.Verdict.{Verdict}
 use Rattle.model.specs.declared.Verdict.the-variants as verdict
 use Rattle.firmware.specs.Reply.{replyWith}
-use Rattle.firmware.specs.declared.controller.Kept.{Kept}
+use Rattle.firmware.specs.declared.controller.CallResult.{CallResult}
 use Rattle.firmware.specs.declared.Reply.{Reply}
 
 -- refusal 0: not refused; length 0 is then silence
@@ -27,15 +27,15 @@ pub record Replies (c : Call) (next : Board) (reply : Reply) (after : List ℕ) 
   pub buffer : after ≡ step c .buffer
 
 -- 0: not refused
-abbrev pub numberOf : Verdict → ℕ
-numberOf verdict.Accepted = 0
-numberOf (verdict.Refused number) = number
+abbrev pub refusalNumber : Verdict → ℕ
+refusalNumber verdict.Accepted = 0
+refusalNumber (verdict.Refused number) = number
 
-abbrev pub keptOf : Board → Verdict → Kept
-keptOf board verdict = record { board = board; refusal = numberOf verdict }
+abbrev pub resultOf : Board → Verdict → CallResult
+resultOf board verdict = record { board = board; refusal = refusalNumber verdict }
 
-abbrev pub setUpKept : SetUp → Kept
-setUpKept given = keptOf (setUpBoard given) (verdictOf (setUpRefusal given))
+abbrev pub setUpResult : SetUp → CallResult
+setUpResult given = resultOf (setUpBoard given) (verdictOf (setUpRefusal given))
 
-abbrev pub measureKept : MeasureCall → Kept
-measureKept c = keptOf (measuredBoard c) (verdictOf (measureRefusal c))
+abbrev pub measureResult : MeasureCall → CallResult
+measureResult c = resultOf (measuredBoard c) (verdictOf (measureRefusal c))

@@ -14,8 +14,8 @@ use Rattle.model.specs.Step.{Call, call, Steps}
 use Rattle.model.specs.declared.Answered.{Answered}
 use Rattle.model.specs.declared.Board.{Board}
 use Rattle.model.specs.declared.Stepped.{Stepped}
-use Rattle.firmware.specs.Controller.{replyOf, Replies, keptOf, setUpKept, measureKept}
-use Rattle.firmware.specs.declared.controller.Kept.{Kept}
+use Rattle.firmware.specs.Controller.{replyOf, Replies, resultOf, setUpResult, measureResult}
+use Rattle.firmware.specs.declared.controller.CallResult.{CallResult}
 use Rattle.firmware.specs.declared.Reply.{Reply}
 
 -- what `udgornwy_packet` leaves and returns is that of a result of `packet`, with its answer in numbers
@@ -26,22 +26,22 @@ pub record FromStep (c : Call) (next : Board) (reply : Reply) (after : List ℕ)
   pub answer : reply ≡ replyOf (result .answer)
 
 -- likewise what `udgornwy_set_up` and `udgornwy_measure` return
-pub record FromAnswered (Contract : Answered → Type 0) (kept : Kept) : Type 0 where
+pub record FromAnswered (Contract : Answered → Type 0) (kept : CallResult) : Type 0 where
   pub result : Answered
   pub contract : Contract result
-  pub told : kept ≡ keptOf (result .board) (result .verdict)
+  pub told : kept ≡ resultOf (result .board) (result .verdict)
 
 -- so that whatever is proved of the board's functions holds of the exported calls
 pub record ExportsFollow : Type 0 where
   pub packet : (c : Call) (next : Board) (reply : Reply) (after : List ℕ) → Replies c next reply after → FromStep c next reply after
-  pub set-up : (given : SetUp) (kept : Kept) → kept ≡ setUpKept given → FromAnswered (SetsUp given) kept
-  pub measure : (c : MeasureCall) (kept : Kept) → kept ≡ measureKept c → FromAnswered (MeasuresBoard c) kept
+  pub set-up : (given : SetUp) (kept : CallResult) → kept ≡ setUpResult given → FromAnswered (SetsUp given) kept
+  pub measure : (c : MeasureCall) (kept : CallResult) → kept ≡ measureResult c → FromAnswered (MeasuresBoard c) kept
 
 -- Demand 3: an exported call of one board alone, from the record that it took to the one that it gave back
 pub data OwnCalled (board : Board) : Board → Type 0 where
   packetCalled :
       (packet buffer after : List ℕ) {next : Board} (reply : Reply) → Replies (call board packet buffer) next reply after → OwnCalled board next
-  measureCalled : (n : ℕ) (value : List ℕ) (kept : Kept) → kept ≡ measureKept (measureCall board n value) → OwnCalled board (kept .board)
+  measureCalled : (n : ℕ) (value : List ℕ) (kept : CallResult) → kept ≡ measureResult (measureCall board n value) → OwnCalled board (kept .board)
 
 -- the exported calls of two boards, from these records on; each takes the record that this board's last call gave back
 pub data Run : Board → Board → Type 0 where
@@ -114,7 +114,7 @@ pub record RunClaim (id : List ℕ) (mode : ℕ) {first second : Board} (run : R
 
 abbrev pub ExportedNoninterference : Type 0
 ExportedNoninterference =
-    (first second : SetUp) (one two : Kept) → one ≡ setUpKept first → two ≡ setUpKept second
+    (first second : SetUp) (one two : CallResult) → one ≡ setUpResult first → two ≡ setUpResult second
     → one .board .id ≡ two .board .id → one .board .mode ≡ two .board .mode
     → (run : Run (one .board) (two .board)) → Unauthenticated (passwordOf (one .board)) (passwordOf (two .board)) (callsOf run)
     → RunClaim (one .board .id) (one .board .mode) run

@@ -8,7 +8,7 @@ ghost use mathlib.Core.Path.{_≡_};
 ghost use Rattle.model.specs.Measurement.{measureCall};
 ghost use Rattle.model.specs.Record.{setUp};
 ghost use Rattle.model.specs.Step.{call};
-ghost use Rattle.firmware.specs.Controller.{Replies, replyOf, numberOf, keptOf, setUpKept, measureKept};
+ghost use Rattle.firmware.specs.Controller.{Replies, replyOf, refusalNumber, resultOf, setUpResult, measureResult};
 
 struct Replied {
     pub board: Board,
@@ -56,13 +56,13 @@ pub extern "C" fn udgornwy_packet(board: &mut Board, packet: &[u8], response: &m
 
 // The board to keep, and the number of the refusal, 0 where there is none.
 #[repr(C)]
-pub struct Kept {
+pub struct CallResult {
     pub board: Board,
     pub refusal: u16,
 }
 
-fn number_of(verdict: Verdict) -> u16
-    ensures { λ r. ⌜ r ≡ numberOf verdict ⌝ }
+fn refusal_number(verdict: Verdict) -> u16
+    ensures { λ r. ⌜ r ≡ refusalNumber verdict ⌝ }
 {
     match verdict {
         Verdict::Accepted => 0,
@@ -70,29 +70,29 @@ fn number_of(verdict: Verdict) -> u16
     }
 }
 
-fn to_keep(answered: Answered) -> Kept
-    ensures { λ r. ⌜ r ≡ keptOf (answered .board) (answered .verdict) ⌝ }
+fn in_numbers(answered: Answered) -> CallResult
+    ensures { λ r. ⌜ r ≡ resultOf (answered .board) (answered .verdict) ⌝ }
 {
     let board = answered.board;
     let verdict = answered.verdict;
-    Kept {
+    CallResult {
         board,
-        refusal: number_of(verdict),
+        refusal: refusal_number(verdict),
     }
 }
 
 // Sets a board up.
 #[no_mangle]
-pub extern "C" fn udgornwy_set_up(id: &[u8], password: &[u8], mode: u8) -> Kept
-    ensures { λ r. ⌜ r ≡ setUpKept (setUp (now (id .entry)) (now (password .entry)) mode) ⌝ }
+pub extern "C" fn udgornwy_set_up(id: &[u8], password: &[u8], mode: u8) -> CallResult
+    ensures { λ r. ⌜ r ≡ setUpResult (setUp (now (id .entry)) (now (password .entry)) mode) ⌝ }
 {
-    to_keep(board::set_up(id, password, mode))
+    in_numbers(board::set_up(id, password, mode))
 }
 
 // Stores a measured value in its read-only row.
 #[no_mangle]
-pub extern "C" fn udgornwy_measure(board: Board, number: u16, value: &[u8]) -> Kept
-    ensures { λ r. ⌜ r ≡ measureKept (measureCall board number (now (value .entry))) ⌝ }
+pub extern "C" fn udgornwy_measure(board: Board, number: u16, value: &[u8]) -> CallResult
+    ensures { λ r. ⌜ r ≡ measureResult (measureCall board number (now (value .entry))) ⌝ }
 {
-    to_keep(board::measure(board, number, value))
+    in_numbers(board::measure(board, number, value))
 }

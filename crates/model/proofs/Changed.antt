@@ -18,7 +18,7 @@ use Rattle.framing.proofs.Refusals.{not-refused}
 use Rattle.block.specs.Command.{Command, commandNumber, Report, held, unknown}
 use Rattle.block.specs.Encoding.{every}
 use Rattle.store.specs.Laws.{Operation, Write, Raise, Lower, Measure, newValue, after}
-use Rattle.store.specs.Layout.{roomOf, valueOf, sizeOf}
+use Rattle.store.specs.Layout.{slotOf, valueOf, sizeOf}
 use Rattle.store.specs.Operations.{measurable, affected, stored as storedIn}
 use Rattle.store.specs.Rows.{isIdentity, rows as table, indexIn, allows, known, rowOf}
 use Rattle.store.specs.Laws as laws
@@ -31,7 +31,7 @@ use Rattle.schedule.specs.Entries as entries
 use Rattle.schedule.specs.Entries.{entryAt}
 use Rattle.schedule.specs.Laws.{isFor}
 use Rattle.schedule.specs.Operations.{scheduleNumber, dayIn, periodIn, entryIn, reads, writes, askedBy, addressedBy, answered, stores, written}
-use Rattle.schedule.specs.declared.Answer.{Answer as Answered}
+use Rattle.schedule.specs.declared.Answer.{Answer as EntryAnswer}
 use Rattle.schedule.specs.declared.Answer.the-variants as entry
 use Rattle.schedule.specs.declared.Schedule.{Schedule}
 use Rattle.schedule.proofs.Laws as schedule
@@ -42,7 +42,7 @@ use Rattle.model.specs.Record.{isId, micra, parametersOf, withParameters
 use Rattle.model.specs.Step.{Call, request, unsound, isDiscovery, commandsOf, reportsOf, stepRefusal, step}
 use Rattle.model.specs.declared.Board.{Board}
 use Rattle.model.specs.declared.Parameters.{Parameters}
-use Rattle.model.proofs.RowOperations.{operationOf, operates, done, same-room, carried-out}
+use Rattle.model.proofs.RowOperations.{operationOf, operates, done, same-slot, carried-out}
 use Rattle.model.proofs.Soundness.{Sized, SoundParts, sound-parts, parts-sound}
 use Rattle.model.proofs.StepRefusals.{step-refusal-by, step-refused, passed-step, answered-board, on-step}
 
@@ -83,19 +83,19 @@ pub read-keeps : (p : Parameters) (c : Command) → c .function ≡ 1 → afterC
 unfolding afterCommand
 read-keeps p c e = rw e (either-way (isSchedule c) p)
 
-run-join : (before behind : List Command) (p : Parameters) → run p (before ++ behind) ≡ run (run p before) behind
+run-join : (before remaining : List Command) (p : Parameters) → run p (before ++ remaining) ≡ run (run p before) remaining
 unfolding run
-run-join [] behind p = refl
-run-join (c ∷ before) behind p = run-join before behind (afterCommand p c)
+run-join [] remaining p = refl
+run-join (c ∷ before) remaining p = run-join before remaining (afterCommand p c)
 
 reports-join :
-    (before : List Command) (command : Command) (behind : List Command) (p : Parameters)
-    → runReports p (before ++ command ∷ behind)
-    ≡ runReports p before ++ reported (run p (before ++ command ∷ [])) command ++ runReports (run p (before ++ command ∷ [])) behind
+    (before : List Command) (command : Command) (remaining : List Command) (p : Parameters)
+    → runReports p (before ++ command ∷ remaining)
+    ≡ runReports p before ++ reported (run p (before ++ command ∷ [])) command ++ runReports (run p (before ++ command ∷ [])) remaining
 unfolding run runReports
-reports-join [] command behind p = refl
-reports-join (c ∷ before) command behind p =
-    ap (λ (rs : List Report). reported (afterCommand p c) c ++ rs) (reports-join before command behind (afterCommand p c)) ∙ simp append-assoc
+reports-join [] command remaining p = refl
+reports-join (c ∷ before) command remaining p =
+    ap (λ (rs : List Report). reported (afterCommand p c) c ++ rs) (reports-join before command remaining (afterCommand p c)) ∙ simp append-assoc
 
 -- no row has the schedule's number
 known-row : (n : ℕ) → known n ≡ true → eqb n scheduleNumber ≡ false
@@ -115,8 +115,8 @@ unfolding reported
 entry-reported p c named = rw named
 
 module _ (p : Parameters) (c : Command) (named : isSchedule c ≡ true) where
-  told : (answer : Answered) → answered (c .function) (c .value) ≡ answer → reported p c ≡ entryReport answer (p .schedule) c
-  told answer e = entry-reported p c named ∙ ap (λ (a : Answered). entryReport a (p .schedule) c) e
+  told : (answer : EntryAnswer) → answered (c .function) (c .value) ≡ answer → reported p c ≡ entryReport answer (p .schedule) c
+  told answer e = entry-reported p c named ∙ ap (λ (a : EntryAnswer). entryReport a (p .schedule) c) e
 
   asked-told : asksEntry c ≡ true → reported p c ≡ entryOn (dayIn (c .value)) p c ∷ []
   asked-told h =
@@ -202,15 +202,15 @@ run-keeps P test kept (c ∷ cs) p h sized so-far =
     run-keeps P test kept cs (afterCommand p c) (both .1) (sized-after p c sized) (kept p c (both .0) sized so-far)
 
 run-others :
-    (n : ℕ) (cs : List Command) (p : Parameters) → noneChanges n cs ≡ true → Sized p → roomOf (run p cs .store) n ≡ roomOf (p .store) n
+    (n : ℕ) (cs : List Command) (p : Parameters) → noneChanges n cs ≡ true → Sized p → slotOf (run p cs .store) n ≡ slotOf (p .store) n
 run-others n cs p h sized =
-    run-keeps (λ (q : Parameters). roomOf (q .store) n ≡ roomOf (p .store) n) (λ (c : Command). not (mayChange n c)) kept cs p h sized refl .1
+    run-keeps (λ (q : Parameters). slotOf (q .store) n ≡ slotOf (p .store) n) (λ (c : Command). not (mayChange n c)) kept cs p h sized refl .1
   where
     kept :
-        (q : Parameters) (c : Command) → not (mayChange n c) ≡ true → Sized q → roomOf (q .store) n ≡ roomOf (p .store) n
-        → roomOf (afterCommand q c .store) n ≡ roomOf (p .store) n
+        (q : Parameters) (c : Command) → not (mayChange n c) ≡ true → Sized q → slotOf (q .store) n ≡ slotOf (p .store) n
+        → slotOf (afterCommand q c .store) n ≡ slotOf (p .store) n
     kept q c unaffected size so-far =
-        on-command (λ (r : Parameters). roomOf (r .store) n ≡ roomOf (p .store) n) q c so-far
+        on-command (λ (r : Parameters). slotOf (r .store) n ≡ slotOf (p .store) n) q c so-far
         (λ operation e.
         let other : affected (commandNumber c) n ≡ false =
         ap (λ (b : Bool). b && affected (commandNumber c) n) (sym (operates (c .function) (c .value) operation e)) ∙ not-true (mayChange n c) unaffected in
@@ -281,7 +281,7 @@ entries-read-back p write read day period sized is-period h read-number reads as
     ap (λ (q : Parameters). q .schedule) (read-keeps (afterCommand p write) read reads) ∙ entries-written p write (named .0) (named .1) in
     entry-reported (run p (write ∷ read ∷ [])) read read-number
     ∙ (λ i. entryReport (answered (reads i) ((asked ∙ ap (λ (x : ℕ). day ∷ x ∷ []) (sym same)) i)) (left i) read)
-    ∙ ap (λ (a : Answered). entryReport a (written (p .schedule) (write .value)) read) (back .0)
+    ∙ ap (λ (a : EntryAnswer). entryReport a (written (p .schedule) (write .value)) read) (back .0)
     ∙ ap (λ (v : List ℕ). held (read .page) (read .low) v ∷ []) (back .1)
 
 -- parameters of a sound record with this ID
@@ -294,7 +294,7 @@ record LegalParameters (id : List ℕ) (p : Parameters) : Type 0 where
 value-kept :
     (operation : Operation) (store : Store) (n other : ℕ) → isIdentity other ≡ true → laws.Sized store
     → valueOf (after operation store n) other ≡ valueOf store other
-value-kept operation store n other h sized = same-room _ _ other (identity-kept operation store n other sized h)
+value-kept operation store n other h sized = same-slot _ _ other (identity-kept operation store n other sized h)
 
 operation-legal :
     {id : List ℕ} (operation : Operation) (p : Parameters) (n : ℕ) → Sized p → LegalParameters id p
@@ -374,31 +374,31 @@ row-done p c = ap (λ (q : Parameters). q .store) (command-done p c) ∙ by-numb
     by-number true named = untouched named (operationOf c)
     by-number false named = refl
 
-module _ (p : Parameters) (before : List Command) (command : Command) (behind : List Command) (sized : Sized p) where
+module _ (p : Parameters) (before : List Command) (command : Command) (remaining : List Command) (sized : Sized p) where
   sized-before : Sized (run p before)
   sized-before = run-sized before p sized
 
-  -- the commands behind run on what the command leaves
-  run-behind : run p (before ++ command ∷ behind) ≡ run (afterCommand (run p before) command) behind
+  -- the commands after run on what the command leaves
+  run-after : run p (before ++ command ∷ remaining) ≡ run (afterCommand (run p before) command) remaining
   unfolding run
-  run-behind = run-join before (command ∷ behind) p
+  run-after = run-join before (command ∷ remaining) p
 
   row-after :
-      noneChanges (commandNumber command) behind ≡ true
-      → CarriedOut command (commandNumber command) (run p before .store) (run p (before ++ command ∷ behind) .store)
+      noneChanges (commandNumber command) remaining ≡ true
+      → CarriedOut command (commandNumber command) (run p before .store) (run p (before ++ command ∷ remaining) .store)
   row-after h =
       let n : ℕ = commandNumber command in
-      carried-out command n (run p before .store) (run p (before ++ command ∷ behind) .store) (sized-before .store)
-      (ap (λ (q : Parameters). roomOf (q .store) n) run-behind
-      ∙ run-others n behind (afterCommand (run p before) command) h (sized-after (run p before) command sized-before)
-      ∙ ap (λ (s : Store). roomOf s n) (row-done (run p before) command))
+      carried-out command n (run p before .store) (run p (before ++ command ∷ remaining) .store) (sized-before .store)
+      (ap (λ (q : Parameters). slotOf (q .store) n) run-after
+      ∙ run-others n remaining (afterCommand (run p before) command) h (sized-after (run p before) command sized-before)
+      ∙ ap (λ (s : Store). slotOf s n) (row-done (run p before) command))
 
   entry-after :
       (day period : ℕ) → isDay day ≡ true → isPeriod period ≡ true → storesEntry day period command ≡ true
-      → noneStores day period behind ≡ true → entryAt (run p (before ++ command ∷ behind) .schedule) day period ≡ entryIn (command .value)
+      → noneStores day period remaining ≡ true → entryAt (run p (before ++ command ∷ remaining) .schedule) day period ≡ entryIn (command .value)
   entry-after day period is-day is-period stored h =
-      ap (λ (q : Parameters). entryAt (q .schedule) day period) run-behind
-      ∙ run-entries day period is-day is-period behind (afterCommand (run p before) command) h (sized-after (run p before) command sized-before)
+      ap (λ (q : Parameters). entryAt (q .schedule) day period) run-after
+      ∙ run-entries day period is-day is-period remaining (afterCommand (run p before) command) h (sized-after (run p before) command sized-before)
       ∙ entry-stored day period is-day is-period (run p before) command sized-before stored
 
 -- the model's reading of a packet's commands
@@ -432,28 +432,28 @@ on-sound P c unchanged changed = by-record (unsound c) refl
 
 runs :
     (c : Call) → stepRefusal c ≡ none → (c .board .mode ≡ 1 → frameOf (c .packet) .id ≡ defaultId → ⊥)
-    → (before : List Command) (command : Command) (behind : List Command)
-    → Asks c (before ++ command ∷ behind) → CommandRuns c before command behind
-runs c accepted no-search before command behind read =
+    → (before : List Command) (command : Command) (remaining : List Command)
+    → Asks c (before ++ command ∷ remaining) → CommandRuns c before command remaining
+runs c accepted no-search before command remaining read =
     let p : Parameters = c .board .parameters in
     let sized : Sized p = sound-parts (c .board) (not-false _ (passed-step c accepted .board)) .sized in
     let other : isDiscovery (request c) ≡ false = no-discovery c no-search in
-    let e : commandsOf (request c) ≡ before ++ command ∷ behind = asked c _ read in
-    let left : step c .board .parameters ≡ run p (before ++ command ∷ behind) =
+    let e : commandsOf (request c) ≡ before ++ command ∷ remaining = asked c _ read in
+    let left : step c .board .parameters ≡ run p (before ++ command ∷ remaining) =
     ap (λ (b : Board). b .parameters)
     (answered-board c accepted
     ∙ (λ i. cond (other i) (c .board) (withParameters (c .board) (run p (e i))))) in
     record {
       carried = λ h.
           subst (λ (q : Parameters). CarriedOut command (commandNumber command) (run p before .store) (q .store)) (sym left)
-          (row-after p before command behind sized h);
+          (row-after p before command remaining sized h);
       stored-entry = λ day period is-day is-period stored h.
           ap (λ (q : Parameters). entryAt (q .schedule) day period) left
-          ∙ entry-after p before command behind sized day period is-day is-period stored h;
+          ∙ entry-after p before command remaining sized day period is-day is-period stored h;
       reports =
           ap (λ (d : Bool). cond d (discoverReports (c .board .id) (commandsOf (request c))) (runReports p (commandsOf (request c)))) other
           ∙ ap (runReports p) e
-          ∙ reports-join before command behind p;
+          ∙ reports-join before command remaining p;
     }
 
 step-sound : (c : Call) → sound (c .board) ≡ true → sound (step c .board) ≡ true
@@ -466,7 +466,7 @@ packets-change c =
     record {
       identity = on-step (SameIdentity (c .board)) c (same-identity (c .board) (c .board .parameters)) (same-identity (c .board) _);
       others = λ cs e n h.
-          on-sound (λ (b : Board). roomOf (b .parameters .store) n ≡ roomOf (c .board .parameters .store) n) c refl
+          on-sound (λ (b : Board). slotOf (b .parameters .store) n ≡ slotOf (c .board .parameters .store) n) c refl
           (λ parts. run-others n (commandsOf (request c)) (c .board .parameters) (ap (noneChanges n) (asked c cs e) ∙ h) (parts .sized));
       entries = λ cs e day period is-day is-period h.
           on-sound (λ (b : Board). entryAt (b .parameters .schedule) day period ≡ entryAt (c .board .parameters .schedule) day period) c refl
@@ -514,7 +514,7 @@ measurements-change c =
       accepted = measurement-accepted c;
       stored = measured-value c;
       others = λ n h.
-          on-measured (λ (b : Board). roomOf (b .parameters .store) n ≡ roomOf (c .board .parameters .store) n) c refl
+          on-measured (λ (b : Board). slotOf (b .parameters .store) n ≡ slotOf (c .board .parameters .store) n) c refl
           (λ parts. others-kept (Measure (c .value)) (c .board .parameters .store) (c .number) n (parts .sized .store) h);
       entries = on-measured (λ (b : Board). b .parameters .schedule ≡ c .board .parameters .schedule) c refl (λ parts. refl);
       legal = λ legal.

@@ -17,7 +17,7 @@ use Rattle.store.specs.Rows.{known}
 use Rattle.store.specs.Sound as stored
 use Rattle.store.proofs.Laws.{sound-kept, held-length}
 use Rattle.schedule.specs.Operations.{answered, reportOf}
-use Rattle.schedule.specs.declared.Answer.{Answer as Answered}
+use Rattle.schedule.specs.declared.Answer.{Answer as EntryAnswer}
 use Rattle.schedule.specs.declared.Answer.the-variants as answer
 use Rattle.schedule.specs.declared.Schedule.{Schedule}
 use Rattle.model.specs.Changes.{ReportsHeld}
@@ -58,7 +58,7 @@ fit-after p c fit =
     }
 
 -- an entry's report has six bytes
-encodable-entry : (answer : Answered) (schedule : Schedule) (c : Command) → isLow c ≡ true → allEncodable (entryReport answer schedule c)
+encodable-entry : (answer : EntryAnswer) (schedule : Schedule) (c : Command) → isLow c ≡ true → allEncodable (entryReport answer schedule c)
 unfolding every
 encodable-entry (answer.Entry day period) schedule c low = encodable-held c (reportOf schedule day period) low (omega arith) (omega arith)
 encodable-entry answer.Unknown schedule c low = rw low

@@ -41,13 +41,13 @@ module _ {Asked : Type 0} where
       decided :
           (applies : Bool) → row .applies asked ≡ applies → cond applies (some (row .number)) (firstRefusal rows asked) ≡ some number
           → (firstRefusal rows asked ≡ some number → Earliest rows asked number) → Earliest (row ∷ rows) asked number
-      decided true h e behind = subst (λ (n : ℕ). Earliest (row ∷ rows) asked n) (cc) (first h)
-      decided false h e behind = later h (behind e)
+      decided true h e after = subst (λ (n : ℕ). Earliest (row ∷ rows) asked n) (cc) (first h)
+      decided false h e after = later h (after e)
 
   pub earliest-first : {rows : List (Refusal Asked)} {asked : Asked} {number : ℕ} → Earliest rows asked number → firstRefusal rows asked ≡ some number
   unfolding firstRefusal
   earliest-first (first h) = rw h
-  earliest-first (later h behind) = rw (h, earliest-first behind)
+  earliest-first (later h after) = rw (h, earliest-first after)
 
   pub none-first : (rows : List (Refusal Asked)) (asked : Asked) → NoneApplies rows asked → firstRefusal rows asked ≡ none
   unfolding firstRefusal

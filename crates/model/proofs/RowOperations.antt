@@ -13,10 +13,10 @@ use Rattle.octets.specs.Octets.{between}
 use Rattle.block.specs.Command.{Command}
 use Rattle.store.specs.Laws as laws
 use Rattle.store.specs.Laws.{Operation, Write, Raise, Lower, newValue, after, Least, Greatest, heldNumber}
-use Rattle.store.specs.Layout.{roomOf, valueOf, setAt, fromRoom}
+use Rattle.store.specs.Layout.{slotOf, valueOf, setAt, fromSlot}
 use Rattle.store.specs.Operations.{inverts, inverse, stored as storedIn}
 use Rattle.store.specs.Rows.{Set, Switch, Number, Text, Free, Clock, Calendar, Row, rows, indexOf, allows, rowOf}
-use Rattle.store.specs.Sets.{numberOf, member}
+use Rattle.store.specs.Sets.{lowFirstNumber, member}
 use Rattle.store.specs.declared.Store.{Store}
 use Rattle.store.proofs.Bools.{tested}
 use Rattle.store.proofs.Laws.{read-back, raise-least, lower-greatest}
@@ -58,8 +58,8 @@ abbrev pub done : Option Operation → Store → ℕ → Store
 done none store n = store
 done (some operation) store n = after operation store n
 
-pub same-room : (left right : Store) (n : ℕ) → roomOf left n ≡ roomOf right n → valueOf left n ≡ valueOf right n
-same-room left right n e = ap (fromRoom (setAt (indexOf n))) e
+pub same-slot : (left right : Store) (n : ℕ) → slotOf left n ≡ slotOf right n → valueOf left n ≡ valueOf right n
+same-slot left right n e = ap (fromSlot (setAt (indexOf n))) e
 
 -- a row that may be written has both functions
 both-write : ℕ → Row → Bool
@@ -103,15 +103,15 @@ not-stored set v w true h other = rw (h, not-inverted set other)
     not-inverted Calendar differs = refl
 
 -- a row that ends as a command's operation leaves it
-module _ (c : Command) (n : ℕ) (from to : Store) (sized : laws.Sized from) (room : roomOf to n ≡ roomOf (done (operationOf c) from n) n) where
-  ends-as : (o : Option Operation) → operationOf c ≡ o → roomOf to n ≡ roomOf (done o from n) n
-  ends-as o e = room ∙ ap (λ (p : Option Operation). roomOf (done p from n) n) e
+module _ (c : Command) (n : ℕ) (from to : Store) (sized : laws.Sized from) (room : slotOf to n ≡ slotOf (done (operationOf c) from n) n) where
+  ends-as : (o : Option Operation) → operationOf c ≡ o → slotOf to n ≡ slotOf (done o from n) n
+  ends-as o e = room ∙ ap (λ (p : Option Operation). slotOf (done p from n) n) e
 
   ends-held : (operation : Operation) (value : List ℕ) → operationOf c ≡ some operation → newValue operation from n ≡ some value → valueOf to n ≡ value
-  ends-held operation value e stored = same-room _ _ n (ends-as (some operation) e) ∙ read-back operation from n value sized stored
+  ends-held operation value e stored = same-slot _ _ n (ends-as (some operation) e) ∙ read-back operation from n value sized stored
 
-  unchanged : (operation : Operation) → newValue operation from n ≡ none → roomOf (after operation from n) n ≡ roomOf from n
-  unchanged operation nothing = ap (λ (o : Option (List ℕ)). roomOf (storedIn from n o) n) nothing
+  unchanged : (operation : Operation) → newValue operation from n ≡ none → slotOf (after operation from n) n ≡ slotOf from n
+  unchanged operation nothing = ap (λ (o : Option (List ℕ)). slotOf (storedIn from n o) n) nothing
 
   inverted :
       (state other : List ℕ) → inverse state ≡ other → Writing c → allows n (c .function) ≡ true → rowOf n .set ≡ Switch → c .value ≡ 2 ∷ []
@@ -122,10 +122,10 @@ module _ (c : Command) (n : ℕ) (from to : Store) (sized : laws.Sized from) (ro
       ((λ i. cond ((by .1 n ∙ a) i) (cond (member (switch i) (two i)) (some (c .value)) (cond (inverts (switch i) (two i)) (some (inverse (e i))) none)) none)
       ∙ ap some inverts-to)
 
-  not-allowed : allows n (c .function) ≡ false → roomOf to n ≡ roomOf from n
+  not-allowed : allows n (c .function) ≡ false → slotOf to n ≡ slotOf from n
   not-allowed h =
       room
-      ∙ by-function (λ (o : Option Operation). roomOf (done o from n) n ≡ roomOf from n) (c .function) (c .value)
+      ∙ by-function (λ (o : Option Operation). slotOf (done o from n) n ≡ slotOf from n) (c .function) (c .value)
       (λ e. unchanged (Write (c .value)) (rw (refused e))) (λ e. unchanged (Write (c .value)) (rw (written-alike n ∙ refused e)))
       (λ e. unchanged Raise (rw (refused e))) (λ e. unchanged Lower (rw (refused e))) refl
     where
@@ -144,11 +144,11 @@ module _ (c : Command) (n : ℕ) (from to : Store) (sized : laws.Sized from) (ro
             ends-as (some (Write (c .value))) (writing c w .0)
             ∙ unchanged (Write (c .value)) (not-stored (rowOf n .set) (c .value) (inverse (valueOf from n)) (allows n 2) m other);
         raised = λ e a size r row.
-            let kept : roomOf to n ≡ roomOf (after Raise from n) n = ends-as (some Raise) (ap (λ (f : ℕ). operationBy f (c .value)) e) in
-            ⊎-elim (λ h. inl (subst (Least r (heldNumber from n)) (sym (ap numberOf (same-room _ _ n kept))) h))
-            (λ h. inr (kept ∙ ap (λ (s : Store). roomOf s n) (h .0), h .1)) (raise-least from n size r sized a row);
+            let kept : slotOf to n ≡ slotOf (after Raise from n) n = ends-as (some Raise) (ap (λ (f : ℕ). operationBy f (c .value)) e) in
+            ⊎-elim (λ h. inl (subst (Least r (heldNumber from n)) (sym (ap lowFirstNumber (same-slot _ _ n kept))) h))
+            (λ h. inr (kept ∙ ap (λ (s : Store). slotOf s n) (h .0), h .1)) (raise-least from n size r sized a row);
         lowered = λ e a size r row.
-            let kept : roomOf to n ≡ roomOf (after Lower from n) n = ends-as (some Lower) (ap (λ (f : ℕ). operationBy f (c .value)) e) in
-            ⊎-elim (λ h. inl (subst (Greatest r (heldNumber from n)) (sym (ap numberOf (same-room _ _ n kept))) h))
-            (λ h. inr (kept ∙ ap (λ (s : Store). roomOf s n) (h .0), h .1)) (lower-greatest from n size r sized a row);
+            let kept : slotOf to n ≡ slotOf (after Lower from n) n = ends-as (some Lower) (ap (λ (f : ℕ). operationBy f (c .value)) e) in
+            ⊎-elim (λ h. inl (subst (Greatest r (heldNumber from n)) (sym (ap lowFirstNumber (same-slot _ _ n kept))) h))
+            (λ h. inr (kept ∙ ap (λ (s : Store). slotOf s n) (h .0), h .1)) (lower-greatest from n size r sized a row);
       }

@@ -23,9 +23,9 @@ no-refusal none h = refl
 no-refusal (some number) h = let impossible : _≡_ {A = ℕ} 0 1 = cc in absurd (omega arith)
 
 -- those of the packet's bytes, then those of its frame
-behind-one : (c : Call) → firstRefusal (drop 2 stepRefusals) c ≡ orElse (packetRefusal (c .packet)) (firstRefusal requestRefusals (request c))
+after-one : (c : Call) → firstRefusal (drop 2 stepRefusals) c ≡ orElse (packetRefusal (c .packet)) (firstRefusal requestRefusals (request c))
 unfolding stepRefusals packetRefusal
-behind-one c =
+after-one c =
     part-then c (λ (whole : Call). whole .packet) packetRefusals (map (refusalOf request) requestRefusals)
     ∙ ap (orElse (firstRefusal packetRefusals (c .packet))) (first-of-part c request requestRefusals)
 
@@ -34,7 +34,7 @@ pub step-refusal :
     → stepRefusal c
     ≡ cond (unsound c) (some 70) (cond (smallBuffer c) (some 1) (orElse (packetRefusal (c .packet)) (firstRefusal requestRefusals (request c))))
 unfolding stepRefusal stepRefusals firstRefusal
-step-refusal c = ap (λ (behind : Option ℕ). cond (unsound c) (some 70) (cond (smallBuffer c) (some 1) behind)) (behind-one c)
+step-refusal c = ap (λ (after : Option ℕ). cond (unsound c) (some 70) (cond (smallBuffer c) (some 1) after)) (after-one c)
 
 -- the refusal of a frame, by the six conditions
 pub request-refusal-by :
@@ -95,7 +95,7 @@ unfolding stepRefusal stepRefusals
 passed-step c h =
     let seventy = not-refused _ _ c h in
     let one = not-refused _ _ c (seventy .1) in
-    let others : (packetRefusal (c .packet) ≡ none) × (firstRefusal requestRefusals (request c) ≡ none) = both-none _ _ (sym (behind-one c) ∙ one .1) in
+    let others : (packetRefusal (c .packet) ≡ none) × (firstRefusal requestRefusals (request c) ≡ none) = both-none _ _ (sym (after-one c) ∙ one .1) in
     record { board = seventy .0; room = one .0; packet = others .0; request = others .1 }
 
 -- the next record: as it was, or with the parameters that the commands leave

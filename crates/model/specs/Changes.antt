@@ -17,7 +17,7 @@ use Rattle.block.specs.Command.{Command, commandNumber, Report, held, unknown}
 use Rattle.block.specs.Encoding.{every}
 use Rattle.block.specs.Request.{commands}
 use Rattle.store.specs.Laws.{Least, Greatest, heldNumber}
-use Rattle.store.specs.Layout.{sizeOf, roomOf, valueOf}
+use Rattle.store.specs.Layout.{sizeOf, slotOf, valueOf}
 use Rattle.store.specs.Operations.{affected}
 use Rattle.store.specs.Rows.{Switch, Number, rowOf, allows}
 use Rattle.store.specs.Sets.{inRange, member}
@@ -44,7 +44,7 @@ mayChange n c = between 2 5 (c .function) && affected (commandNumber c) n
 abbrev pub noneChanges : ℕ → List Command → Bool
 noneChanges n cs = every (λ (c : Command). not (mayChange n c)) cs
 
--- the fields behind day and period: speed 0 to 5, temperature 0 or 15 to 30, end minute 0 to 59, end hour 0 to 23
+-- the fields after day and period: speed 0 to 5, temperature 0 or 15 to 30, end minute 0 to 59, end hour 0 to 23
 abbrev pub legalFields : List ℕ → Bool
 legalFields value =
     leb (getD value 2 0) 5 && (eqb (getD value 3 0) 0 || between 15 30 (getD value 3 0)) && leb (getD value 4 0) 59 && leb (getD value 5 0) 23
@@ -127,8 +127,8 @@ Writing c = (c .function ≡ 2) ⊎ (c .function ≡ 3)
 -- what a command calls for in its row n, from the store just before it to the one in the end
 pub record CarriedOut (c : Command) (n : ℕ) (from to : Store) : Type 0 where
   -- a read, and a function that the row does not have, leave it as it was
-  pub read : c .function ≡ 1 → roomOf to n ≡ roomOf from n
-  pub not-allowed : allows n (c .function) ≡ false → roomOf to n ≡ roomOf from n
+  pub read : c .function ≡ 1 → slotOf to n ≡ slotOf from n
+  pub not-allowed : allows n (c .function) ≡ false → slotOf to n ≡ slotOf from n
   -- a write stores a value of the row's set, and a 2 inverts a switch; any other value leaves the row as it was
   pub written : Writing c → allows n (c .function) ≡ true → member (rowOf n .set) (c .value) ≡ true → valueOf to n ≡ c .value
   pub switched-on :
@@ -136,27 +136,27 @@ pub record CarriedOut (c : Command) (n : ℕ) (from to : Store) : Type 0 where
   pub switched-off :
       Writing c → allows n (c .function) ≡ true → rowOf n .set ≡ Switch → c .value ≡ 2 ∷ [] → valueOf from n ≡ 1 ∷ [] → valueOf to n ≡ 0 ∷ []
   pub not-written :
-      Writing c → member (rowOf n .set) (c .value) ≡ false → (rowOf n .set ≡ Switch → c .value ≡ 2 ∷ [] → ⊥) → roomOf to n ≡ roomOf from n
+      Writing c → member (rowOf n .set) (c .value) ≡ false → (rowOf n .set ≡ Switch → c .value ≡ 2 ∷ [] → ⊥) → slotOf to n ≡ slotOf from n
   -- a raise takes the least number of the row's set above the one held, a lower the greatest below; if there is none, the row is as it was
   pub raised :
       c .function ≡ 4 → allows n 4 ≡ true → (size : ℕ) (r : Range) → rowOf n .set ≡ Number size r
       → Least r (heldNumber from n) (heldNumber to n)
-      ⊎ ((roomOf to n ≡ roomOf from n) × ((z : ℕ) → inRange r z ≡ true → z ≤ heldNumber from n))
+      ⊎ ((slotOf to n ≡ slotOf from n) × ((z : ℕ) → inRange r z ≡ true → z ≤ heldNumber from n))
   pub lowered :
       c .function ≡ 5 → allows n 5 ≡ true → (size : ℕ) (r : Range) → rowOf n .set ≡ Number size r
       → Greatest r (heldNumber from n) (heldNumber to n)
-      ⊎ ((roomOf to n ≡ roomOf from n) × ((z : ℕ) → inRange r z ≡ true → heldNumber from n ≤ z))
+      ⊎ ((slotOf to n ≡ slotOf from n) × ((z : ℕ) → inRange r z ≡ true → heldNumber from n ≤ z))
 
 -- a command of an accepted packet, by its place among the others
-pub record CommandRuns (c : Call) (before : List Command) (command : Command) (behind : List Command) : Type 0 where
+pub record CommandRuns (c : Call) (before : List Command) (command : Command) (rest : List Command) : Type 0 where
   -- in the end its row is what it calls for, unless a later command may change it
   pub carried :
-      noneChanges (commandNumber command) behind ≡ true
+      noneChanges (commandNumber command) rest ≡ true
       → CarriedOut command (commandNumber command) (run (c .board .parameters) before .store) (step c .board .parameters .store)
   -- and an entry that it stores is the one written, unless a later command stores it
   pub stored-entry :
       (day period : ℕ) → between 1 7 day ≡ true → between 1 4 period ≡ true → storesEntry day period command ≡ true
-      → noneStores day period behind ≡ true
+      → noneStores day period rest ≡ true
       → entryAt (step c .board .parameters .schedule) day period
       ≡ entry (getD (command .value) 2 0) (degrees (getD (command .value) 3 0)) (getD (command .value) 4 0) (getD (command .value) 5 0)
   -- its report holds the value just after it
@@ -164,14 +164,14 @@ pub record CommandRuns (c : Call) (before : List Command) (command : Command) (b
       reportsOf (request c)
       ≡ runReports (c .board .parameters) before
       ++ reported (run (c .board .parameters) (before ++ command ∷ [])) command
-      ++ runReports (run (c .board .parameters) (before ++ command ∷ [])) behind
+      ++ runReports (run (c .board .parameters) (before ++ command ∷ [])) rest
 
 pub record PacketChanges (c : Call) : Type 0 where
   pub identity : SameIdentity (c .board) (step c .board)
   -- parameters that no command of the packet affects keep their bytes
   pub others :
       (cs : List Command) → Asks c cs → (n : ℕ) → noneChanges n cs ≡ true
-      → roomOf (step c .board .parameters .store) n ≡ roomOf (c .board .parameters .store) n
+      → slotOf (step c .board .parameters .store) n ≡ slotOf (c .board .parameters .store) n
   -- and so do entries of the schedule that no command stores
   pub entries :
       (cs : List Command) → Asks c cs → (day period : ℕ) → between 1 7 day ≡ true → between 1 4 period ≡ true → noneStores day period cs ≡ true
@@ -181,8 +181,8 @@ pub record PacketChanges (c : Call) : Type 0 where
   -- each command of a packet that is accepted, and is no discovery (search)
   pub runs :
       stepRefusal c ≡ none → (c .board .mode ≡ 1 → frameOf (c .packet) .id ≡ defaultId → ⊥)
-      → (before : List Command) (command : Command) (behind : List Command)
-      → Asks c (before ++ command ∷ behind) → CommandRuns c before command behind
+      → (before : List Command) (command : Command) (rest : List Command)
+      → Asks c (before ++ command ∷ rest) → CommandRuns c before command rest
   -- a sound record stays sound, and each of its rows holds a value of its set
   pub legal : sound (c .board) ≡ true → sound (step c .board) ≡ true
   pub members : sound (c .board) ≡ true → (n : ℕ) → allows n 1 ≡ true → member (rowOf n .set) (valueOf (step c .board .parameters .store) n) ≡ true
@@ -199,7 +199,7 @@ pub record MeasurementChanges (c : MeasureCall) : Type 0 where
       → length (c .value) ≡ sizeOf (rowOf (c .number) .set) → measureRefusal c ≡ none
   pub stored : measureRefusal c ≡ none → valueOf (measuredBoard c .parameters .store) (c .number) ≡ c .value
   pub others :
-      (n : ℕ) → affected (c .number) n ≡ false → roomOf (measuredBoard c .parameters .store) n ≡ roomOf (c .board .parameters .store) n
+      (n : ℕ) → affected (c .number) n ≡ false → slotOf (measuredBoard c .parameters .store) n ≡ slotOf (c .board .parameters .store) n
   pub entries : measuredBoard c .parameters .schedule ≡ c .board .parameters .schedule
   pub legal : sound (c .board) ≡ true → sound (measuredBoard c) ≡ true
 

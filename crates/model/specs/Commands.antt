@@ -9,7 +9,7 @@ use Rattle.store.specs.declared.Answer.the-variants.{Value, Unknown, Silence}
 use Rattle.store.specs.declared.Store.{Store}
 use Rattle.store.specs.Layout.{valueOf}
 use Rattle.store.specs.Operations.{written, raised, lowered, answer}
-use Rattle.schedule.specs.declared.Answer.{Answer as Answered}
+use Rattle.schedule.specs.declared.Answer.{Answer as EntryAnswer}
 use Rattle.schedule.specs.declared.Answer.the-variants as entry
 use Rattle.schedule.specs.declared.Schedule.{Schedule}
 use Rattle.schedule.specs.Operations as entries
@@ -45,7 +45,7 @@ rowReport Value store c = held (c .page) (c .low) (valueOf store (commandNumber 
 rowReport Unknown store c = unknown (c .page) (c .low) ∷ []
 rowReport Silence store c = []
 
-abbrev pub entryReport : Answered → Schedule → Command → List Report
+abbrev pub entryReport : EntryAnswer → Schedule → Command → List Report
 entryReport (entry.Entry day period) schedule c = held (c .page) (c .low) (entries.reportOf schedule day period) ∷ []
 entryReport entry.Unknown schedule c = unknown (c .page) (c .low) ∷ []
 entryReport entry.Silence schedule c = []

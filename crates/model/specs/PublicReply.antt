@@ -23,7 +23,7 @@ replyTo board packet buffer = replyOf (step (call board packet buffer) .answer) 
 abbrev pub bufferedReply : List ℕ → List ℕ → List ℕ → Reply
 bufferedReply packet id buffer = cond (ltb (length buffer) 256) (replyOf (Refused 1) buffer) (discoveryReply packet id buffer)
 
--- why any other packet is turned down: the lowest of 1 to 8, and nothing behind the password is looked at
+-- why any other packet is turned down: the lowest of 1 to 8, and nothing after the password is looked at
 abbrev pub publicRefusal : List ℕ → List ℕ → List ℕ → ℕ
 publicRefusal id packet buffer =
     cond (ltb (length buffer) 256) 1

@@ -36,7 +36,7 @@ pub(crate) fn set_up(step: Step, left: &[u8], text: &mut [u8]) -> Step {
     let Two::Until { first, second } = fields::decode_two(left, &mut bytes) else {
         return calls::bad(step, text);
     };
-    let last = fields::behind_two(left);
+    let last = fields::after_two(left);
     let Byte::Value(mode) = fields::read_byte(fields::first(last, b' ')) else {
         return calls::bad(step, text);
     };
@@ -57,7 +57,7 @@ pub(crate) fn measure(step: Step, left: &[u8], text: &mut [u8]) -> Step {
     let Number::Value(number) = fields::read_number(fields::first(left, b' ')) else {
         return calls::bad(step, text);
     };
-    let last = fields::behind(left, b' ');
+    let last = fields::after(left, b' ');
     let mut bytes = [0u8; 8192];
     let Decoded::Until(end) = hex::decode(fields::first(last, b' '), &mut bytes, 0) else {
         return calls::bad(step, text);
@@ -81,9 +81,9 @@ fn put_answer(text: &mut [u8], at: usize, answer: Answer, buffer: &[u8]) -> usiz
             output::put_dirty(text, end, buffer)
         }
         Answer::Response(length) => {
-            let named = output::put(text, at, b"response ");
-            let end = output::put_hex(text, named, slices::first(buffer, length));
-            output::put_dirty(text, end, slices::behind(buffer, length))
+            let start = output::put(text, at, b"response ");
+            let end = output::put_hex(text, start, slices::first(buffer, length));
+            output::put_dirty(text, end, slices::after(buffer, length))
         }
     }
 }
@@ -107,7 +107,7 @@ pub(crate) fn packet(step: Step, left: &[u8], text: &mut [u8]) -> Step {
     if 1024 < length {
         return calls::bad(step, text);
     }
-    let last = fields::behind(left, b' ');
+    let last = fields::after(left, b' ');
     let mut bytes = [0u8; 8192];
     let Decoded::Until(end) = hex::decode(fields::first(last, b' '), &mut bytes, 0) else {
         return calls::bad(step, text);

@@ -76,7 +76,7 @@ pub(crate) fn answer(step: Step, line: &[u8], text: &mut [u8]) -> Step {
     let done = call(
         step,
         slices::first(line, end),
-        slices::behind(line, end),
+        slices::after(line, end),
         text,
     );
     let board = done.board;

@@ -1,4 +1,4 @@
-// The fields of a line. What is left of a line behind a field is empty, or begins with the separator before the next one.
+// The fields of a line. What is left of a line after a field is empty, or begins with the separator before the next one.
 use crate::hex;
 use crate::hex::Byte;
 use crate::hex::Decoded;
@@ -27,8 +27,8 @@ pub(crate) fn first(left: &[u8], separator: u8) -> &[u8] {
     slices::part(left, 1, slices::place_of(left, 1, separator))
 }
 
-// What is left behind it.
-pub(crate) fn behind(left: &[u8], separator: u8) -> &[u8]
+// What is left after it.
+pub(crate) fn after(left: &[u8], separator: u8) -> &[u8]
     ensures { λ r. ⌜ length (now r) ≤ length (now (left .entry)) - 1 ⌝ }
 {
     let end = slices::place_of(left, 1, separator);
@@ -60,7 +60,7 @@ fn digits(field: &[u8]) -> Decimal {
         if 9 < digit {
             return Decimal::Bad;
         }
-        value = 10 * value + octets::wide(digit);
+        value = 10 * value + octets::to_usize(digit);
         if 9999 < value {
             return Decimal::Bad;
         }
@@ -96,12 +96,12 @@ pub(crate) fn read_number(field: &[u8]) -> Number {
     Number::Value(joined(octets::byte_at(&bytes, 0), octets::byte_at(&bytes, 1)))
 }
 
-// Puts the bytes of the next two fields one behind the other into `bytes`.
+// Puts the bytes of the next two fields one after the other into `bytes`.
 pub(crate) fn decode_two(left: &[u8], bytes: &mut [u8]) -> Two {
     let Decoded::Until(end) = hex::decode(first(left, b' '), bytes, 0) else {
         return Two::Bad;
     };
-    let rest = behind(left, b' ');
+    let rest = after(left, b' ');
     let Decoded::Until(until) = hex::decode(first(rest, b' '), bytes, end) else {
         return Two::Bad;
     };
@@ -111,14 +111,14 @@ pub(crate) fn decode_two(left: &[u8], bytes: &mut [u8]) -> Two {
     }
 }
 
-// What is left behind the next two fields.
-pub(crate) fn behind_two(left: &[u8]) -> &[u8] {
-    let rest = behind(left, b' ');
-    behind(rest, b' ')
+// What is left after the next two fields.
+pub(crate) fn after_two(left: &[u8]) -> &[u8] {
+    let rest = after(left, b' ');
+    after(rest, b' ')
 }
 
 // Whether the next field is the last one.
 pub(crate) fn is_last(left: &[u8]) -> bool {
-    let rest = behind(left, b' ');
+    let rest = after(left, b' ');
     rest.len() == 0
 }

@@ -13,14 +13,14 @@ struct State {
     open: bool,
 }
 
-// The board behind the lines that have ended, and how many bytes follow them.
-struct Ran {
+// The board after the lines that have ended, and how many bytes follow them.
+struct AnsweredLines {
     board: Board,
     left: usize,
 }
 
 // Answers each line that has ended.
-fn answer_lines(board: Board, lines: &[u8], text: &mut [u8]) -> Ran {
+fn answer_lines(board: Board, lines: &[u8], text: &mut [u8]) -> AnsweredLines {
     let mut step = Step { board, at: 0 };
     let mut left = lines;
     loop {
@@ -28,14 +28,14 @@ fn answer_lines(board: Board, lines: &[u8], text: &mut [u8]) -> Ran {
         if left.len() <= end {
             output::flush(text, step.at);
             let next = step.board;
-            return Ran {
+            return AnsweredLines {
                 board: next,
                 left: end,
             };
         }
         step = calls::answer(step, slices::first(left, end), text);
-        let behind = end + 1;
-        let rest = &left[behind..];
+        let after = end + 1;
+        let rest = &left[after..];
         left = rest;
     }
 }
@@ -85,7 +85,7 @@ fn advance(board: Board, input: &mut [u8], filled: usize, text: &mut [u8], open:
     }
 }
 
-// Reads once behind the bytes held, and says how many there are then.
+// Reads once after the bytes held, and says how many there are then.
 fn fill(input: &mut [u8], held: usize) -> usize {
     if input.len() < held {
         return held;

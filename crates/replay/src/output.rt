@@ -82,8 +82,8 @@ pub(crate) fn put_decimal(text: &mut [u8], at: usize, number: u8) -> usize {
 fn put_name(text: &mut [u8], at: usize, page: u8, low: u8) -> usize {
     let number = [page, low];
     let spaced = put(text, at, b" ");
-    let named = put_hex(text, spaced, &number);
-    put(text, named, b"=")
+    let start = put_hex(text, spaced, &number);
+    put(text, start, b"=")
 }
 
 // A parameter and its value.

@@ -19,7 +19,7 @@ use store::Store;
 // Above the number of every row.
 const NUMBERS: u16 = 0x0500;
 
-// What `record` shows behind the identity: the numbers, and then the 28 entries of the schedule.
+// What `record` shows after the identity: the numbers, and then the 28 entries of the schedule.
 const ITEMS: u16 = 0x051C;
 
 fn put_row(text: &mut [u8], at: usize, number: u16, bytes: &[u8]) -> usize {
@@ -51,7 +51,7 @@ fn put_items(text: &mut [u8], at: usize, bytes: &[u8], schedule: Schedule) -> us
 fn put_identity(text: &mut [u8], at: usize, board: Board) -> usize {
     let id = board.id;
     let password = board.password;
-    let size = octets::wide(board.size);
+    let size = octets::to_usize(board.size);
     let before_id = output::put(text, at, b"record id=");
     let after_id = output::put_field(text, before_id, &id);
     let before_password = output::put(text, after_id, b" password=");
@@ -131,7 +131,7 @@ fn places() -> [u8; 227] {
     let mut bytes = [0u8; 227];
     let mut place: u8 = 0;
     while place < 227 {
-        bytes[octets::wide(place)] = place;
+        bytes[octets::to_usize(place)] = place;
         place += 1;
     }
     bytes
@@ -145,7 +145,7 @@ fn is_text(number: u16) -> bool {
 }
 
 // Writes a value into the room of `size` bytes at `place`, cut or filled up with 0; a text has its length in the byte before.
-fn write_room(bytes: &mut [u8], place: usize, size: usize, value: &[u8], text: bool) {
+fn write_slot(bytes: &mut [u8], place: usize, size: usize, value: &[u8], text: bool) {
     let zeros = [0u8; 227];
     let kept = slices::first(value, size);
     octets::overwrite(bytes, place, slices::first(&zeros, size));
@@ -161,18 +161,18 @@ fn write_room(bytes: &mut [u8], place: usize, size: usize, value: &[u8], text: b
 }
 
 // By the contract of `store::held` alone: of a store in which each byte is its own place it hands back the places of a row's value.
-// (A text's length is read there too; both texts lie far enough behind for their whole rooms.)
+// (A text's length is read there too; both texts lie far enough after for their whole rooms.)
 fn with_row(board: Board, number: u16, value: &[u8]) -> Board {
     let own = places();
     let held = store::held(&own, number);
     if held.len() == 0 {
         return board;
     }
-    let place = octets::wide(held[0]);
+    let place = octets::to_usize(held[0]);
     let parameters = board.parameters;
     let store = parameters.store;
     let mut bytes = store.bytes;
-    write_room(&mut bytes, place, held.len(), value, is_text(number));
+    write_slot(&mut bytes, place, held.len(), value, is_text(number));
     let schedule = parameters.schedule;
     with_parameters(
         board,
@@ -224,7 +224,7 @@ fn poke_bytes(step: Step, name: &[u8], value: &[u8], text: &mut [u8]) -> Step {
 
 pub(crate) fn poke(step: Step, left: &[u8], text: &mut [u8]) -> Step {
     let name = fields::first(left, b' ');
-    let last = fields::behind(left, b' ');
+    let last = fields::after(left, b' ');
     if !fields::is_last(last) {
         return calls::bad(step, text);
     }

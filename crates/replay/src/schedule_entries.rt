@@ -21,7 +21,7 @@ pub(crate) fn put(text: &mut [u8], at: usize, schedule: Schedule, index: u16) ->
     let before_period = output::put(text, after_day, b".");
     let after_period = output::put_decimal(text, before_period, period);
     let before_value = output::put(text, after_period, b"=");
-    output::put_hex(text, before_value, slices::behind(&reported, 2))
+    output::put_hex(text, before_value, slices::after(&reported, 2))
 }
 
 // The index of the entry that a name stands for.
@@ -41,7 +41,7 @@ pub(crate) fn place_of(name: &[u8]) -> Place {
 fn place_at(day: u8, period: u8) -> Place {
     match day {
         1..=7 => match period {
-            1..=4 => Place::At(4 * octets::wide(day - 1) + octets::wide(period - 1)),
+            1..=4 => Place::At(4 * octets::to_usize(day - 1) + octets::to_usize(period - 1)),
             _ => Place::Nowhere,
         },
         _ => Place::Nowhere,

@@ -21,8 +21,8 @@ pub(crate) fn first(bytes: &[u8], count: usize) -> &[u8] {
     part(bytes, 0, count)
 }
 
-// What stands behind them.
-pub(crate) fn behind(bytes: &[u8], count: usize) -> &[u8] {
+// What stands after them.
+pub(crate) fn after(bytes: &[u8], count: usize) -> &[u8] {
     part(bytes, count, bytes.len())
 }
 

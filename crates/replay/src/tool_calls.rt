@@ -36,12 +36,12 @@ fn read_command(command: &[u8], values: &mut [u8], at: usize) -> Command {
     let Byte::Value(function) = fields::read_byte(slices::first(command, colon)) else {
         return Command::Bad;
     };
-    let left = slices::behind(command, colon);
+    let left = slices::after(command, colon);
     let Number::Value(number) = fields::read_number(fields::first(left, b':')) else {
         return Command::Bad;
     };
-    let last = fields::behind(left, b':');
-    let value = slices::behind(last, 1);
+    let last = fields::after(left, b':');
+    let value = slices::after(last, 1);
     let Decoded::Until(end) = hex::decode(value, values, at) else {
         return Command::Bad;
     };
@@ -72,7 +72,7 @@ fn read_commands(
     let mut size: usize = 0;
     while 0 < left.len() {
         let Command::Read {
-            function: called,
+            function: next_function,
             number,
             length,
             end,
@@ -83,12 +83,12 @@ fn read_commands(
         if functions.len() <= count {
             return Commands::Bad;
         }
-        functions[count] = called;
+        functions[count] = next_function;
         put_number(numbers, count, number);
         put_number(lengths, count, length);
         count += 1;
         size = end;
-        let rest = fields::behind(left, b' ');
+        let rest = fields::after(left, b' ');
         left = rest;
     }
     Commands::Read { count, size }
@@ -102,9 +102,9 @@ fn put_written(text: &mut [u8], at: usize, written: Written, buffer: &[u8]) -> u
             output::put_dirty(text, end, buffer)
         }
         Written::Length(length) => {
-            let named = output::put(text, at, b"packet ");
-            let end = output::put_hex(text, named, slices::first(buffer, length));
-            output::put_dirty(text, end, slices::behind(buffer, length))
+            let start = output::put(text, at, b"packet ");
+            let end = output::put_hex(text, start, slices::first(buffer, length));
+            output::put_dirty(text, end, slices::after(buffer, length))
         }
     }
 }
@@ -151,7 +151,7 @@ pub(crate) fn write(left: &[u8], text: &mut [u8], at: usize) -> usize {
     if 1024 < length {
         return output::put_bad(text, at);
     }
-    let sender = fields::behind(left, b' ');
+    let sender = fields::after(left, b' ');
     let mut bytes = [0u8; 8192];
     let Two::Until { first, second } = fields::decode_two(sender, &mut bytes) else {
         return output::put_bad(text, at);
@@ -164,7 +164,7 @@ pub(crate) fn write(left: &[u8], text: &mut [u8], at: usize) -> usize {
         &mut buffer[0..length],
         slices::first(both, first),
         slices::part(both, first, second),
-        fields::behind_two(sender),
+        fields::after_two(sender),
     )
 }
 
@@ -177,25 +177,25 @@ fn put_reports(text: &mut [u8], at: usize, block: &[u8]) -> usize {
             NextReport::End => return end,
             NextReport::Malformed => return end,
             NextReport::Held {
-                page: named,
+                page: next_page,
                 low,
                 value,
                 rest,
             } => {
-                end = output::put_held(text, end, named, low, block::part(left, value, rest));
-                let behind = block::part(left, rest, 0);
-                left = behind;
-                page = named;
+                end = output::put_held(text, end, next_page, low, block::part(left, value, rest));
+                let after = block::part(left, rest, 0);
+                left = after;
+                page = next_page;
             }
             NextReport::Unknown {
-                page: named,
+                page: next_page,
                 low,
                 rest,
             } => {
-                end = output::put_unknown(text, end, named, low);
-                let behind = block::part(left, rest, 0);
-                left = behind;
-                page = named;
+                end = output::put_unknown(text, end, next_page, low);
+                let after = block::part(left, rest, 0);
+                left = after;
+                page = next_page;
             }
         }
     }
@@ -205,8 +205,8 @@ fn put_response(text: &mut [u8], at: usize, response: Response, packet: &[u8]) -
     match response {
         Response::Refused(number) => output::put_refused(text, at, number),
         Response::Accepted { block, end } => {
-            let named = output::put(text, at, b"reports");
-            put_reports(text, named, slices::part(packet, block, end))
+            let start = output::put(text, at, b"reports");
+            put_reports(text, start, slices::part(packet, block, end))
         }
     }
 }
@@ -217,7 +217,7 @@ pub(crate) fn read(left: &[u8], text: &mut [u8], at: usize) -> usize {
     let Two::Until { first, second } = fields::decode_two(left, &mut bytes) else {
         return output::put_bad(text, at);
     };
-    let last = fields::behind_two(left);
+    let last = fields::after_two(left);
     let Decoded::Until(end) = hex::decode(fields::first(last, b' '), &mut bytes, second) else {
         return output::put_bad(text, at);
     };

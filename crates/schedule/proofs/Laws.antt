@@ -116,7 +116,7 @@ write-exact schedule value day period sized d p = rw (d, p) (choose (stores valu
     choose true e = days-at (daysOf (dayIn value)) (schedule .entries) (periodIn value) (entryIn value) day period sized (rw (d, p))
     choose false e = refl
 
--- the bytes of a value of six behind its first
+-- the bytes of a value of six after its first
 six-bytes : (value : List ℕ) → length value ≡ 6 → periodIn value ∷ bytesOf (entryIn value) ≡ drop 1 value
 six-bytes value e =
     rw (

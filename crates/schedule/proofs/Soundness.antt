@@ -10,7 +10,7 @@ use Rattle.octets.proofs.Booleans.{both-true}
 use Rattle.schedule.specs.declared.Entry.{Entry}
 use Rattle.schedule.specs.Entries.{legal, lowest, allLegal}
 
--- the entries from an index on: the one there and those behind it, or none
+-- the entries from an index on: the one there and those after it, or none
 pub legal-turn : (entries : List Entry) (index : ℕ) → index < length entries
     → allLegal (drop index entries) ≡ (legal (getD entries index lowest) && allLegal (drop (index + 1) entries))
 unfolding allLegal

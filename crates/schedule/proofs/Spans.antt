@@ -19,7 +19,7 @@ use Rattle.schedule.specs.Entries.{withEntry, withDays}
 use Rattle.schedule.specs.Operations.{dayIn, periodIn, writes}
 use Rattle.schedule.specs.Spans.{spanOf, spanIn, daysFrom}
 
--- the days from a first until before an end: the first and those behind it, or none
+-- the days from a first until before an end: the first and those after it, or none
 more-days : (first end : ℕ) → first < end → daysFrom (end - first) first ≡ first ∷ daysFrom (end - (first + 1)) (first + 1)
 unfolding daysFrom
 more-days first end h =

@@ -25,7 +25,7 @@ WriteExact =
     (schedule : Schedule) (value : List ℕ) (day period : ℕ) → Sized schedule → isDay day ≡ true → isPeriod period ≡ true
     → entryAt (written schedule value) day period ≡ cond (stores value && isFor value day period) (entryIn value) (entryAt schedule day period)
 
--- a read of an entry just written gives back what was written: the day, then the bytes behind the day
+-- a read of an entry just written gives back what was written: the day, then the bytes after the day
 abbrev pub ReadBack : Type 0
 ReadBack =
     (schedule : Schedule) (value : List ℕ) (day : ℕ) → Sized schedule → stores value ≡ true → contains (daysOf (dayIn value)) day ≡ true

@@ -21,7 +21,7 @@ dayIn value = getD value 0 0
 abbrev pub periodIn : List ℕ → ℕ
 periodIn value = getD value 1 0
 
--- the entry that a written value has behind them
+-- the entry that a written value has after them
 abbrev pub entryIn : List ℕ → Entry
 entryIn value = entry (getD value 2 0) (degrees (getD value 3 0)) (getD value 4 0) (getD value 5 0)
 

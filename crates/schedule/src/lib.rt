@@ -127,7 +127,7 @@ fn place_of(day: u8, period: u8) -> usize
     requires { ⌜ hasEntry day period ≡ true ⌝ }
     ensures { λ r. ⌜ (r ≡ placeOf day period) × (r < entryCount) ⌝ }
 {
-    4 * octets::wide(day) + octets::wide(period) - 5
+    4 * octets::to_usize(day) + octets::to_usize(period) - 5
 }
 
 fn lowest() -> Entry

@@ -14,14 +14,14 @@ use Rattle.store.specs.declared.Store.{Store}
 use Rattle.store.specs.declared.temperatures.Reading.the-variants.{Temperature}
 use Rattle.store.specs.declared.tenths.Tenths.{Tenths}
 use Rattle.store.specs.Rows.{Set, Row, rows, rowAt}
-use Rattle.store.specs.Sets.{numberOf, bytesOf}
-use Rattle.store.specs.Layout.{sizeOf, isText, filled, setAt, placeAt, toRoom, overwritten, withValueAt}
+use Rattle.store.specs.Sets.{lowFirstNumber, bytesOf}
+use Rattle.store.specs.Layout.{sizeOf, isText, filled, setAt, placeAt, toSlot, overwritten, withValueAt}
 use Rattle.store.specs.Temperatures.{sensorMissing, shortCircuit, isMark, tenthsOf, bitsOf, readingOf}
 use Rattle.octets.proofs.Booleans.{both-true}
 use Rattle.store.proofs.Bools.{tested}
 use Rattle.store.proofs.Tables.{each-row, in-or-past}
 
--- a room of one byte, and of two
+-- a slot of one byte, and of two
 filled-one : (v : List ℕ) → filled 1 v ≡ getD v 0 0 ∷ []
 filled-one [] = refl
 filled-one (x ∷ rest) =
@@ -35,7 +35,7 @@ filled-two (x ∷ y ∷ rest) =
     let none : 2 - suc (suc (length rest)) ≡ 0 = omega arith in
     ap (λ (n : ℕ). x ∷ y ∷ replicate n 0) none
 
--- the rooms of each quantity's rows, by one test of the whole table
+-- the slots of each quantity's rows, by one test of the whole table
 holds : ℕ → Set → Bool
 holds size set = eqb (sizeOf set) size && not (isText set)
 
@@ -47,11 +47,11 @@ fits quantity.WholeDegrees set = holds 1 set
 fits-row : Row → Bool
 fits-row r = fits (r .quantity) (r .set)
 
-same-room : (size : ℕ) (set : Set) (v : List ℕ) → holds size set ≡ true → toRoom set v ≡ filled size v
+same-slot : (size : ℕ) (set : Set) (v : List ℕ) → holds size set ≡ true → toSlot set v ≡ filled size v
 unfolding holds
-same-room size set v e = by (isText set) refl (both-true (eqb (sizeOf set) size) (not (isText set)) e)
+same-slot size set v e = by (isText set) refl (both-true (eqb (sizeOf set) size) (not (isText set)) e)
   where
-    by : (b : Bool) → isText set ≡ b → (eqb (sizeOf set) size ≡ true) × (not b ≡ true) → toRoom set v ≡ filled size v
+    by : (b : Bool) → isText set ≡ b → (eqb (sizeOf set) size ≡ true) × (not b ≡ true) → toSlot set v ≡ filled size v
     by true t h = absurd (false≢true (h .1))
     by false t h = rw (t, eqb-true (sizeOf set) size (h .0))
 
@@ -60,11 +60,11 @@ unfolding rows fits-row fits holds
 row-fits k q e = ap (λ (p : Quantity). fits p (setAt k)) (sym e) ∙ tested (fits-row (rowAt k)) (each-row fits-row tt tt k)
 
 -- the one byte of whole degrees is its number
-pub degrees-number : (k : ℕ) (v : List ℕ) → rowAt k .quantity ≡ quantity.WholeDegrees → length v ≡ sizeOf (setAt k) → getD v 0 0 ≡ numberOf v
+pub degrees-number : (k : ℕ) (v : List ℕ) → rowAt k .quantity ≡ quantity.WholeDegrees → length v ≡ sizeOf (setAt k) → getD v 0 0 ≡ lowFirstNumber v
 unfolding fits holds
 degrees-number k v e h = by v (h ∙ eqb-true (sizeOf (setAt k)) 1 (both-true (eqb (sizeOf (setAt k)) 1) (not (isText (setAt k))) (row-fits k quantity.WholeDegrees e) .0))
   where
-    by : (w : List ℕ) → length w ≡ 1 → getD w 0 0 ≡ numberOf w
+    by : (w : List ℕ) → length w ≡ 1 → getD w 0 0 ≡ lowFirstNumber w
     by [] p = refl
     by (x ∷ []) p = omega arith
     by (x ∷ y ∷ rest) p = absurd (omega arith)
@@ -76,40 +76,40 @@ bits-back bits h = ⊎-elim (λ k. simp (lt-ltb bits 0x8000 k)) (λ k. simp (le-
 -- a temperature that is read of two bytes is no mark, and has their bits
 record Told (v : List ℕ) (t : Tenths) : Type 0 where
   no-mark : isMark (bitsOf (t .tenths)) ≡ false
-  same : bitsOf (t .tenths) ≡ numberOf v
+  same : bitsOf (t .tenths) ≡ lowFirstNumber v
 
-told : (v : List ℕ) (t : Tenths) → ((i : ℕ) → getD v i 0 < 256) → readingOf (numberOf v) ≡ Temperature t → Told v t
-told v t b e = by (eqb (numberOf v) sensorMissing) refl (eqb (numberOf v) shortCircuit) refl
+told : (v : List ℕ) (t : Tenths) → ((i : ℕ) → getD v i 0 < 256) → readingOf (lowFirstNumber v) ≡ Temperature t → Told v t
+told v t b e = by (eqb (lowFirstNumber v) sensorMissing) refl (eqb (lowFirstNumber v) shortCircuit) refl
   where
-    by : (m : Bool) → eqb (numberOf v) sensorMissing ≡ m → (s : Bool) → eqb (numberOf v) shortCircuit ≡ s → Told v t
+    by : (m : Bool) → eqb (lowFirstNumber v) sensorMissing ≡ m → (s : Bool) → eqb (lowFirstNumber v) shortCircuit ≡ s → Told v t
     by true p s q = let z : _≡_ {A = ℕ} 0 1 = cc (rw p at e) in absurd (omega arith)
     by false p true q = let z : _≡_ {A = ℕ} 0 1 = cc (rw (p, q) at e) in absurd (omega arith)
     by false p false q =
-        let read : t ≡ tenthsOf (numberOf v) = cc (rw (p, q) at e) in
-        let same : bitsOf (t .tenths) ≡ numberOf v = ap (λ (x : Tenths). bitsOf (x .tenths)) read ∙ bits-back (numberOf v) (omega (arith, b 0, b 1)) in
+        let read : t ≡ tenthsOf (lowFirstNumber v) = cc (rw (p, q) at e) in
+        let same : bitsOf (t .tenths) ≡ lowFirstNumber v = ap (λ (x : Tenths). bitsOf (x .tenths)) read ∙ bits-back (lowFirstNumber v) (omega (arith, b 0, b 1)) in
         record { no-mark = rw (same, p, q); same = same }
 
-pub unmarked : (v : List ℕ) (t : Tenths) → ((i : ℕ) → getD v i 0 < 256) → readingOf (numberOf v) ≡ Temperature t → isMark (bitsOf (t .tenths)) ≡ false
+pub unmarked : (v : List ℕ) (t : Tenths) → ((i : ℕ) → getD v i 0 < 256) → readingOf (lowFirstNumber v) ≡ Temperature t → isMark (bitsOf (t .tenths)) ≡ false
 unmarked v t b e = told v t b e .no-mark
 
 pub tenths-stored : (s : Store) (k : ℕ) (v : List ℕ) (t : Tenths) → ((i : ℕ) → getD v i 0 < 256) → rowAt k .quantity ≡ quantity.Tenths
-    → readingOf (numberOf v) ≡ Temperature t → withValueAt s k (bytesOf 2 (bitsOf (t .tenths))) ≡ withValueAt s k v
+    → readingOf (lowFirstNumber v) ≡ Temperature t → withValueAt s k (bytesOf 2 (bitsOf (t .tenths))) ≡ withValueAt s k v
 unfolding fits
 tenths-stored s k v t b e read =
     let fit = row-fits k quantity.Tenths e in
-    let low : numberOf v % 256 ≡ getD v 0 0 = omega (arith, b 0, b 1) in
-    let top : numberOf v / 256 ≡ getD v 1 0 = omega (arith, b 0, b 1) in
+    let low : lowFirstNumber v % 256 ≡ getD v 0 0 = omega (arith, b 0, b 1) in
+    let top : lowFirstNumber v / 256 ≡ getD v 1 0 = omega (arith, b 0, b 1) in
     let high : getD v 1 0 % 256 ≡ getD v 1 0 = omega (arith, b 1) in
     ap (overwritten s (placeAt k))
-    (same-room 2 (setAt k) (bytesOf 2 (bitsOf (t .tenths))) fit
+    (same-slot 2 (setAt k) (bytesOf 2 (bitsOf (t .tenths))) fit
     ∙ rw (told v t b read .same, low, top, high) (sym (filled-two v))
-    ∙ sym (same-room 2 (setAt k) v fit))
+    ∙ sym (same-slot 2 (setAt k) v fit))
 
 pub degrees-stored : (s : Store) (k : ℕ) (v : List ℕ) → rowAt k .quantity ≡ quantity.WholeDegrees → withValueAt s k (getD v 0 0 ∷ []) ≡ withValueAt s k v
 unfolding fits
 degrees-stored s k v e =
     let fit = row-fits k quantity.WholeDegrees e in
     ap (overwritten s (placeAt k))
-    (same-room 1 (setAt k) (getD v 0 0 ∷ []) fit
+    (same-slot 1 (setAt k) (getD v 0 0 ∷ []) fit
     ∙ sym (filled-one v)
-    ∙ sym (same-room 1 (setAt k) v fit))
+    ∙ sym (same-slot 1 (setAt k) v fit))

@@ -1,4 +1,4 @@
--- A value stored for one parameter: its room holds it, every other room stays as it was.
+-- A value stored for one parameter: its slot holds it, every other slot stays as it was.
 use Prim.Native.Nat.{ℕ, zero, suc, _+_, _-_, _≤_, _<_}
 use native.Mathlib.Nat.{le-of-suc-le-suc, not-suc-le-zero}
 use native.Mathlib.Omega.{arith}
@@ -11,19 +11,19 @@ use lib.Seq.{take-append-le, take-at, drop-append-le, drop-at, drop-drop, length
 use Rattle.octets.specs.Octets.{overwrite}
 use Rattle.store.specs.declared.Store.{Store}
 use Rattle.store.specs.Rows.{Set, Row, rows, noRow, rowAt, indexOf}
-use Rattle.store.specs.Layout.{rowCount, storeSize, sizeOf, isText, widthOf, placesFrom, setAt, placeAt, filled, toRoom, roomAt, roomOf, withValueAt, withValue}
+use Rattle.store.specs.Layout.{rowCount, storeSize, sizeOf, isText, widthOf, placesFrom, setAt, placeAt, filled, toSlot, slotAt, slotOf, withValueAt, withValue}
 use Rattle.store.proofs.Tables.{rows-length, in-or-past, found-number}
-use Rattle.store.proofs.Rooms.{past, place-within, length-filled, length-overwrite}
+use Rattle.store.proofs.Slots.{past, place-within, length-filled, length-overwrite}
 
--- a room is as wide as its row
-pub room-width : (set : Set) (v : List ℕ) → length (toRoom set v) ≡ widthOf set
-room-width set v = choose (isText set)
+-- a slot is as wide as its row
+pub slot-width : (set : Set) (v : List ℕ) → length (toSlot set v) ≡ widthOf set
+slot-width set v = choose (isText set)
   where
     choose : (b : Bool) → length (cond b (length (take (sizeOf set) v) ∷ filled (sizeOf set) v) (filled (sizeOf set) v)) ≡ cond b (suc (sizeOf set)) (sizeOf set)
     choose true = ap suc (length-filled (sizeOf set) v)
     choose false = length-filled (sizeOf set) v
 
--- bytes of a list that has others put in: those put, those before them, those behind them
+-- bytes of a list that has others put in: those put, those before them, those after them
 own-part : (l : List ℕ) (at : ℕ) (v : List ℕ) (w : ℕ) → length v ≡ w → at + w ≤ length l → take w (drop at (overwrite l at v)) ≡ v
 own-part l at v w e h =
     ap (λ (t : List ℕ). take w (drop at t)) (append-assoc (take at l) v (drop (at + length v) l))
@@ -43,8 +43,8 @@ part-before l at v b w h k =
     ∙ sym (front (take at l) (drop at l) b w (omega arith))
     ∙ ap (λ (t : List ℕ). take w (drop b t)) (take-append-drop at l)
 
-rest-behind : (l : List ℕ) (at : ℕ) (v : List ℕ) (b : ℕ) → at + length v ≤ length l → at + length v ≤ b → drop b (overwrite l at v) ≡ drop b l
-rest-behind l at v b h k =
+rest-after : (l : List ℕ) (at : ℕ) (v : List ℕ) (b : ℕ) → at + length v ≤ length l → at + length v ≤ b → drop b (overwrite l at v) ≡ drop b l
+rest-after l at v b h k =
     let n : length (take at l ++ v) ≡ at + length v =
     length-append (take at l) v ∙ ap (λ (i : ℕ). i + length v) (length-take-le at l (omega arith)) in
     let e : at + length v + (b - (at + length v)) ≡ b = omega arith in
@@ -54,7 +54,7 @@ rest-behind l at v b h k =
     ∙ drop-drop (b - (at + length v)) (at + length v) l
     ∙ ap (λ (i : ℕ). drop i l) e
 
--- rooms stand one behind the other
+-- slots stand one after the other
 places-from : (from : ℕ) (l : List Row) (k : ℕ) → k < length l → from ≤ getD (placesFrom from l) k 0
 unfolding placesFrom
 places-from from [] k h = absurd (not-suc-le-zero h)
@@ -72,46 +72,46 @@ place-order : (j k : ℕ) → j < k → k < rowCount → placeAt j + widthOf (se
 place-order j k q h = places-order 0 rows j k q (rw rows-length h)
 
 module _ (s : Store) (sized : length (s .bytes) ≡ storeSize) where
-  ends : (k : ℕ) (v : List ℕ) → placeAt k + length (toRoom (setAt k) v) ≤ length (s .bytes)
-  ends k v = omega (arith, room-width (setAt k) v, place-within k)
+  ends : (k : ℕ) (v : List ℕ) → placeAt k + length (toSlot (setAt k) v) ≤ length (s .bytes)
+  ends k v = omega (arith, slot-width (setAt k) v, place-within k)
 
   pub size-with : (k : ℕ) (v : List ℕ) → length (withValueAt s k v .bytes) ≡ storeSize
-  size-with k v = length-overwrite (s .bytes) (placeAt k) (toRoom (setAt k) v) (ends k v) ∙ sized
+  size-with k v = length-overwrite (s .bytes) (placeAt k) (toSlot (setAt k) v) (ends k v) ∙ sized
 
-  pub own-room : (k : ℕ) (v : List ℕ) → roomAt (withValueAt s k v .bytes) k ≡ toRoom (setAt k) v
-  own-room k v = own-part (s .bytes) (placeAt k) (toRoom (setAt k) v) (widthOf (setAt k)) (room-width (setAt k) v) (omega (arith, place-within k))
+  pub own-slot : (k : ℕ) (v : List ℕ) → slotAt (withValueAt s k v .bytes) k ≡ toSlot (setAt k) v
+  own-slot k v = own-part (s .bytes) (placeAt k) (toSlot (setAt k) v) (widthOf (setAt k)) (slot-width (setAt k) v) (omega (arith, place-within k))
 
-  behind : (j k : ℕ) (v : List ℕ) → placeAt k + widthOf (setAt k) ≤ placeAt j → roomAt (withValueAt s k v .bytes) j ≡ roomAt (s .bytes) j
-  behind j k v h =
+  after : (j k : ℕ) (v : List ℕ) → placeAt k + widthOf (setAt k) ≤ placeAt j → slotAt (withValueAt s k v .bytes) j ≡ slotAt (s .bytes) j
+  after j k v h =
       ap (λ (t : List ℕ). take (widthOf (setAt j)) t)
-      (rest-behind (s .bytes) (placeAt k) (toRoom (setAt k) v) (placeAt j) (ends k v) (omega (arith, room-width (setAt k) v)))
+      (rest-after (s .bytes) (placeAt k) (toSlot (setAt k) v) (placeAt j) (ends k v) (omega (arith, slot-width (setAt k) v)))
 
   -- two different rows of the table
-  apart-room : (j k : ℕ) (v : List ℕ) → j < rowCount → k < rowCount → (j ≡ k → ⊥) → roomAt (withValueAt s k v .bytes) j ≡ roomAt (s .bytes) j
-  apart-room j k v hj hk ne =
+  apart-slot : (j k : ℕ) (v : List ℕ) → j < rowCount → k < rowCount → (j ≡ k → ⊥) → slotAt (withValueAt s k v .bytes) j ≡ slotAt (s .bytes) j
+  apart-slot j k v hj hk ne =
       ⊎-elim
-      (λ h. part-before (s .bytes) (placeAt k) (toRoom (setAt k) v) (placeAt j) (widthOf (setAt j)) (omega (arith, place-within k)) (place-order j k h hk))
-      (λ h. behind j k v (place-order k j (strict h) hj))
+      (λ h. part-before (s .bytes) (placeAt k) (toSlot (setAt k) v) (placeAt j) (widthOf (setAt j)) (omega (arith, place-within k)) (place-order j k h hk))
+      (λ h. after j k v (place-order k j (strict h) hj))
       (in-or-past j k)
     where
       strict : k ≤ j → k < j
       strict h = ⊎-elim (λ p. p) (λ p. absurd (ne (omega arith))) (in-or-past k j)
 
   -- past the last row nothing is put, and nothing stands
-  past-put : (k j : ℕ) (v : List ℕ) → rowCount ≤ k → roomAt (withValueAt s k v .bytes) j ≡ roomAt (s .bytes) j
-  past-put k j v h = behind j k v (omega (arith, past k h))
+  past-put : (k j : ℕ) (v : List ℕ) → rowCount ≤ k → slotAt (withValueAt s k v .bytes) j ≡ slotAt (s .bytes) j
+  past-put k j v h = after j k v (omega (arith, past k h))
 
-  past-room : (k j : ℕ) (v : List ℕ) → rowCount ≤ j → roomAt (withValueAt s k v .bytes) j ≡ roomAt (s .bytes) j
-  past-room k j v h =
+  past-slot : (k j : ℕ) (v : List ℕ) → rowCount ≤ j → slotAt (withValueAt s k v .bytes) j ≡ slotAt (s .bytes) j
+  past-slot k j v h =
       let none : widthOf (setAt j) ≡ 0 = past j h .1 in
       rw none
 
-  pub other-room : (n m : ℕ) (v : List ℕ) → (n ≡ m → ⊥) → roomOf (withValue s n v) m ≡ roomOf s m
-  other-room n m v ne =
+  pub other-slot : (n m : ℕ) (v : List ℕ) → (n ≡ m → ⊥) → slotOf (withValue s n v) m ≡ slotOf s m
+  other-slot n m v ne =
       ⊎-elim
       (λ hm. ⊎-elim
-      (λ hn. apart-room (indexOf m) (indexOf n) v hm hn (λ e. ne (sym (found-number n hn) ∙ ap (λ (k : ℕ). rowAt k .number) (sym e) ∙ found-number m hm)))
+      (λ hn. apart-slot (indexOf m) (indexOf n) v hm hn (λ e. ne (sym (found-number n hn) ∙ ap (λ (k : ℕ). rowAt k .number) (sym e) ∙ found-number m hm)))
       (λ hn. past-put (indexOf n) (indexOf m) v hn)
       (in-or-past (indexOf n) rowCount))
-      (λ hm. past-room (indexOf n) (indexOf m) v hm)
+      (λ hm. past-slot (indexOf n) (indexOf m) v hm)
       (in-or-past (indexOf m) rowCount)

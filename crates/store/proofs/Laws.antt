@@ -13,16 +13,16 @@ use Rattle.store.specs.declared.Measurement.the-variants.{Accepted, NotM
 use Rattle.store.specs.declared.Range.{Range}
 use Rattle.store.specs.declared.Store.{Store}
 use Rattle.store.specs.Rows.{Set, Number, Row, rows, rowOf, indexOf, indexIn, allows, known, isIdentity}
-use Rattle.store.specs.Sets.{numberOf, bytesOf, printable, inRange, member, leastAbove, greatestBelow}
-use Rattle.store.specs.Layout.{sizeOf, placesFrom, roomOf, fromRoom, valueOf, withValue}
+use Rattle.store.specs.Sets.{lowFirstNumber, bytesOf, printable, inRange, member, leastAbove, greatestBelow}
+use Rattle.store.specs.Layout.{sizeOf, placesFrom, slotOf, fromSlot, valueOf, withValue}
 use Rattle.store.specs.Operations.{accepted, neighbour, stored}
-use Rattle.store.specs.Start.{lowest, startValue, startRooms, start}
+use Rattle.store.specs.Start.{lowest, startValue, startSlots, start}
 use Rattle.store.specs.Sound.{sound, soundRows}
 use Rattle.store.specs.Laws.{Operation, Write, Raise, Lower, Measure, newValue, after, heldNumber, Sized, Least, Greatest}
 use Rattle.store.specs.Laws.{SizeKept, OthersKept, IdentityKept, ReadBack, SoundKept, HeldLegal, HeldLength, StartSized, StartSound, StartIdentity, RaiseLeast, LowerGreatest}
 use Rattle.store.proofs.Bools.{either, not-both, no-value, tested}
 use Rattle.store.proofs.Tables.{each-number}
-use Rattle.store.proofs.Frames.{size-with, other-room}
+use Rattle.store.proofs.Frames.{size-with, other-slot}
 use Rattle.store.proofs.NewValues.{numbered, numbered-row, Bytes, next-bytes, new-member}
 use Rattle.store.proofs.Searches.{least-above, none-above, greatest-below, none-below}
 use Rattle.store.proofs.Soundness as soundness
@@ -38,7 +38,7 @@ size-kept o s n sized = kept Sized s n (newValue o s n) sized (λ v e. size-with
 
 pub others-kept : OthersKept
 others-kept o s n m sized e =
-    kept (λ (t : Store). roomOf t m ≡ roomOf s m) s n (newValue o s n) refl (λ v h. other-room s sized n m v (eqb-false n m e))
+    kept (λ (t : Store). slotOf t m ≡ slotOf s m) s n (newValue o s n) refl (λ v h. other-slot s sized n m v (eqb-false n m e))
 
 pub read-back : ReadBack
 read-back o s n v sized e =
@@ -83,12 +83,12 @@ not-new (Measure w) s n v e h = choose (known n && not (allows n 2)) h
 
 pub identity-kept : IdentityKept
 identity-kept o s n m sized e =
-    kept (λ (t : Store). roomOf t m ≡ roomOf s m) s n (newValue o s n) refl
-    (λ v h. other-room s sized n m v (λ q. not-new o s n v (ap isIdentity q ∙ e) h))
+    kept (λ (t : Store). slotOf t m ≡ slotOf s m) s n (newValue o s n) refl
+    (λ v h. other-slot s sized n m v (λ q. not-new o s n v (ap isIdentity q ∙ e) h))
 
 -- the start store
 blank-sized : Sized blank
-unfolding rows lowest startValue startRooms start blank
+unfolding rows lowest startValue startSlots start blank
 blank-sized = refl
 
 pub start-sized : StartSized
@@ -99,18 +99,18 @@ unfolding rows indexIn
 id-member id e = eq-eqb (length id) 16 e
 
 pub start-sound : StartSound
-unfolding rows indexIn placesFrom printable lowest startValue startRooms start blank soundRows
+unfolding rows indexIn placesFrom printable lowest startValue startSlots start blank soundRows
 start-sound id e = subst (λ (s : Store). sound s ≡ true) (start-with id) (soundness.sound-with blank 0x007C id blank-sized refl (id-member id e))
 
 unit-type : valueOf blank 0x00B9 ≡ 2 ∷ 0 ∷ []
-unfolding rows indexIn placesFrom lowest startValue startRooms start blank
+unfolding rows indexIn placesFrom lowest startValue startSlots start blank
 unit-type = refl
 
 pub start-identity : StartIdentity
 start-identity id e =
     subst (λ (s : Store). (valueOf s 0x007C ≡ id) × (valueOf s 0x00B9 ≡ 2 ∷ 0 ∷ [])) (start-with id) (
       soundness.read-value blank 0x007C id blank-sized (id-member id e),
-      ap (fromRoom (rowOf 0x00B9 .set)) (other-room blank blank-sized 0x007C 0x00B9 id (λ q. absurd (omega arith))) ∙ unit-type,
+      ap (fromSlot (rowOf 0x00B9 .set)) (other-slot blank blank-sized 0x007C 0x00B9 id (λ q. absurd (omega arith))) ∙ unit-type,
     )
 
 -- raising and lowering: the number found, or nothing changes
@@ -121,7 +121,7 @@ module _ (o : Operation) (s : Store) (n size : ℕ) (r : Range) (sized : Sized s
   step (some y) h e =
       let bytes : Bytes size r (some y) (bytesOf size y) = next-bytes size r (some y) (bytesOf size y) (subst (λ (t : Set). numbered t ≡ true) row (numbered-row n)) h refl in
       let same : bytes .number ≡ y = cc (bytes .found) in
-      inl (y, refl, ap numberOf (read-back o s n (bytesOf size y) sized e) ∙ bytes .back ∙ same)
+      inl (y, refl, ap lowFirstNumber (read-back o s n (bytesOf size y) sized e) ∙ bytes .back ∙ same)
 
   -- the new value of a row that allows the function
   moves : (next : Range → ℕ → Option ℕ) (f : ℕ) → allows n f ≡ true

@@ -1,6 +1,6 @@
 pub mod Tables
 pub mod SetColumns
-pub mod Rooms
+pub mod Slots
 pub mod Members
 pub mod Neighbours
 pub mod TwosComplement

@@ -11,7 +11,7 @@ use Rattle.store.specs.declared.Range.{Range}
 use Rattle.store.specs.declared.Store.{Store}
 use Rattle.store.specs.declared.sets.Next.the-variants.{To, Stay}
 use Rattle.store.specs.Rows.{Set, Switch, Number, Text, Free, Clock, Calendar, rowOf}
-use Rattle.store.specs.Sets.{numberOf, bytesOf, firstAfter, firstBefore}
+use Rattle.store.specs.Sets.{lowFirstNumber, bytesOf, firstAfter, firstBefore}
 use Rattle.store.specs.Layout.{sizeOf, valueOf, withValue}
 use Rattle.store.specs.Columns.{kindOf, rangeOf}
 use Rattle.store.specs.Next.{nextOf}
@@ -57,7 +57,7 @@ no-neighbour next Clock held e = refl
 no-neighbour next Calendar held e = refl
 
 a-neighbour : (next : Range → ℕ → Option ℕ) (set : Set) (held : List ℕ) → kindOf set ≡ 1
-    → Option·map (bytesOf (sizeOf set)) (next (rangeOf set) (numberOf held)) ≡ neighbour next set held
+    → Option·map (bytesOf (sizeOf set)) (next (rangeOf set) (lowFirstNumber held)) ≡ neighbour next set held
 a-neighbour next set held e = ap (λ (s : Set). neighbour next s held) (kind-number set e)
 
 -- what the code's answer says of the neighbour
@@ -73,14 +73,14 @@ module _ (next : Range → ℕ → Option ℕ) (s : Store) (n : ℕ) where
   pub not-number : (kindOf (rowOf n .set) ≡ 1 → ⊥) → s ≡ stored s n (neighbour next (rowOf n .set) (valueOf s n))
   not-number e = sym (ap (λ (o : Option (List ℕ)). stored s n o) (no-neighbour next (rowOf n .set) (valueOf s n) e))
 
-  pub at-the-end : kindOf (rowOf n .set) ≡ 1 → Stay ≡ nextOf (next (rangeOf (rowOf n .set)) (numberOf (valueOf s n)))
+  pub at-the-end : kindOf (rowOf n .set) ≡ 1 → Stay ≡ nextOf (next (rangeOf (rowOf n .set)) (lowFirstNumber (valueOf s n)))
       → s ≡ stored s n (neighbour next (rowOf n .set) (valueOf s n))
   at-the-end e h =
-      ap (λ (o : Option ℕ). stored s n (Option·map (bytesOf (sizeOf (rowOf n .set))) o)) (sym (stays (next (rangeOf (rowOf n .set)) (numberOf (valueOf s n))) h))
+      ap (λ (o : Option ℕ). stored s n (Option·map (bytesOf (sizeOf (rowOf n .set))) o)) (sym (stays (next (rangeOf (rowOf n .set)) (lowFirstNumber (valueOf s n))) h))
       ∙ ap (λ (o : Option (List ℕ)). stored s n o) (a-neighbour next (rowOf n .set) (valueOf s n) e)
 
-  pub to-the-next : (x : ℕ) → kindOf (rowOf n .set) ≡ 1 → To x ≡ nextOf (next (rangeOf (rowOf n .set)) (numberOf (valueOf s n)))
+  pub to-the-next : (x : ℕ) → kindOf (rowOf n .set) ≡ 1 → To x ≡ nextOf (next (rangeOf (rowOf n .set)) (lowFirstNumber (valueOf s n)))
       → withValue s n (bytesOf (sizeOf (rowOf n .set)) x) ≡ stored s n (neighbour next (rowOf n .set) (valueOf s n))
   to-the-next x e h =
-      ap (λ (o : Option ℕ). stored s n (Option·map (bytesOf (sizeOf (rowOf n .set))) o)) (sym (goes (next (rangeOf (rowOf n .set)) (numberOf (valueOf s n))) x h))
+      ap (λ (o : Option ℕ). stored s n (Option·map (bytesOf (sizeOf (rowOf n .set))) o)) (sym (goes (next (rangeOf (rowOf n .set)) (lowFirstNumber (valueOf s n))) x h))
       ∙ ap (λ (o : Option (List ℕ)). stored s n o) (a-neighbour next (rowOf n .set) (valueOf s n) e)

@@ -15,8 +15,8 @@ use Rattle.store.specs.declared.Measurement.the-variants.{Accepted, NotM
 use Rattle.store.specs.declared.Range.{Range}
 use Rattle.store.specs.declared.Store.{Store}
 use Rattle.store.specs.Rows.{Set, Switch, Number, Text, Free, Clock, Calendar, Row, rows, rowOf, allows, known, isIdentity, indexOf}
-use Rattle.store.specs.Sets.{numberOf, bytesOf, inRange, greatest, printable, isClock, isCalendar, member, leastAbove, greatestBelow}
-use Rattle.store.specs.Layout.{sizeOf, isText, filled, toRoom, fromRoom, valueOf}
+use Rattle.store.specs.Sets.{lowFirstNumber, bytesOf, inRange, greatest, printable, isClock, isCalendar, member, leastAbove, greatestBelow}
+use Rattle.store.specs.Layout.{sizeOf, isText, filled, toSlot, fromSlot, valueOf}
 use Rattle.store.specs.Columns.{kindOf}
 use Rattle.store.specs.Operations.{inverts, inverse, neighbour, measurable, accepted}
 use Rattle.store.specs.Laws.{Operation, Write, Raise, Lower, Measure, newValue}
@@ -26,7 +26,7 @@ use Rattle.store.proofs.SetColumns.{kind-free}
 use Rattle.store.proofs.Searches.{range-most, least-above, greatest-below}
 use Rattle.store.proofs.Tables.{each-row}
 
--- how long a member is: as long as its room, a text at least its shortest
+-- how long a member is: as long as its slot, a text at least its shortest
 unfoldable pub shortestOf : Set → ℕ
 shortestOf Switch = 1
 shortestOf (Number size r) = size
@@ -43,7 +43,7 @@ exact n size rest e =
 pub member-length : (set : Set) (v : List ℕ) → member set v ≡ true → (shortestOf set ≤ length v) × (length v ≤ sizeOf set)
 unfolding shortestOf
 member-length Switch v e = exact (length v) 1 (leb (getD v 0 0) 1) e
-member-length (Number size r) v e = exact (length v) size (inRange r (numberOf v)) e
+member-length (Number size r) v e = exact (length v) size (inRange r (lowFirstNumber v)) e
 member-length (Text shortest longest) v e =
     let bounds = both-true (leb shortest (length v)) (leb (length v) longest) (both-true (between shortest longest (length v)) (printable v) e .0) in
     (leb-true shortest (length v) (bounds .0), leb-true (length v) longest (bounds .1))
@@ -60,7 +60,7 @@ plain-length (Free size) e = refl
 plain-length Clock e = refl
 plain-length Calendar e = refl
 
--- a value that fits its room is read back
+-- a value that fits its slot is read back
 filled-short : (size : ℕ) (v : List ℕ) → length v ≤ size → filled size v ≡ v ++ replicate (size - length v) 0
 filled-short size v h = ap (λ (l : List ℕ). l ++ replicate (size - length v) 0) (take-all size v h)
 
@@ -69,17 +69,17 @@ filled-exact size v k h =
     let none : size - length v ≡ 0 = omega arith in
     filled-short size v h ∙ ap (λ (n : ℕ). v ++ replicate n 0) none ∙ append-nil v
 
--- a room and its value, by whether it is a text's
-abbrev roomBy : Bool → ℕ → List ℕ → List ℕ
-roomBy text size v = cond text (length (take size v) ∷ filled size v) (filled size v)
+-- a slot and its value, by whether it is a text's
+abbrev slotBy : Bool → ℕ → List ℕ → List ℕ
+slotBy text size v = cond text (length (take size v) ∷ filled size v) (filled size v)
 
 abbrev valueBy : Bool → List ℕ → List ℕ
-valueBy text room = cond text (take (getD room 0 0) (drop 1 room)) room
+valueBy text slot = cond text (take (getD slot 0 0) (drop 1 slot)) slot
 
-pub read-room : (set : Set) (v : List ℕ) → member set v ≡ true → fromRoom set (toRoom set v) ≡ v
-read-room set v e = choose (isText set) refl (member-length set v e)
+pub read-slot : (set : Set) (v : List ℕ) → member set v ≡ true → fromSlot set (toSlot set v) ≡ v
+read-slot set v e = choose (isText set) refl (member-length set v e)
   where
-    choose : (b : Bool) → isText set ≡ b → (shortestOf set ≤ length v) × (length v ≤ sizeOf set) → valueBy b (roomBy b (sizeOf set) v) ≡ v
+    choose : (b : Bool) → isText set ≡ b → (shortestOf set ≤ length v) × (length v ≤ sizeOf set) → valueBy b (slotBy b (sizeOf set) v) ≡ v
     choose true t (k, h) =
         ap (λ (l : List ℕ). take (length (take (sizeOf set) v)) l) (filled-short (sizeOf set) v h)
         ∙ take-at v (replicate (sizeOf set - length v) 0) (length (take (sizeOf set) v)) (ap length (sym (take-all (sizeOf set) v h)))
@@ -120,16 +120,16 @@ pub numbered-row : (n : ℕ) → numbered (rowOf n .set) ≡ true
 unfolding rows numbered
 numbered-row n = tested (numbered (rowOf n .set)) (each-row (λ (r : Row). numbered (r .set)) tt tt (indexOf n))
 
-number-back : (size x : ℕ) (r : Range) → numbered (Number size r) ≡ true → x ≤ greatest r → (length (bytesOf size x) ≡ size) × (numberOf (bytesOf size x) ≡ x)
+number-back : (size x : ℕ) (r : Range) → numbered (Number size r) ≡ true → x ≤ greatest r → (length (bytesOf size x) ≡ size) × (lowFirstNumber (bytesOf size x) ≡ x)
 unfolding numbered
 number-back size x r e h =
     ⊎-elim
     (λ p. let q = both-true (eqb size 1) (ltb (greatest r) 256) p in
     let small : x < 256 = omega (arith, ltb-true (greatest r) 256 (q .1)) in
-    subst (λ (k : ℕ). (length (bytesOf k x) ≡ k) × (numberOf (bytesOf k x) ≡ x)) (sym (eqb-true size 1 (q .0))) (refl, omega arith))
+    subst (λ (k : ℕ). (length (bytesOf k x) ≡ k) × (lowFirstNumber (bytesOf k x) ≡ x)) (sym (eqb-true size 1 (q .0))) (refl, omega arith))
     (λ p. let q = both-true (eqb size 2) (ltb (greatest r) 65536) p in
     let small : x < 65536 = omega (arith, ltb-true (greatest r) 65536 (q .1)) in
-    subst (λ (k : ℕ). (length (bytesOf k x) ≡ k) × (numberOf (bytesOf k x) ≡ x)) (sym (eqb-true size 2 (q .0))) (refl, omega arith))
+    subst (λ (k : ℕ). (length (bytesOf k x) ≡ k) × (lowFirstNumber (bytesOf k x) ≡ x)) (sym (eqb-true size 2 (q .0))) (refl, omega arith))
     (either (eqb size 1 && ltb (greatest r) 256) (eqb size 2 && ltb (greatest r) 65536) e)
 
 -- the bytes of a neighbour are that number
@@ -138,7 +138,7 @@ pub record Bytes (size : ℕ) (r : Range) (o : Option ℕ) (w : List ℕ) : Type
   pub found : o ≡ some number
   pub within : inRange r number ≡ true
   pub sized : length w ≡ size
-  pub back : numberOf w ≡ number
+  pub back : lowFirstNumber w ≡ number
 
 pub next-bytes : (size : ℕ) (r : Range) (o : Option ℕ) (w : List ℕ) → numbered (Number size r) ≡ true → ((y : ℕ) → o ≡ some y → inRange r y ≡ true)
     → Option·map (bytesOf size) o ≡ some w → Bytes size r o w
@@ -151,7 +151,7 @@ next-bytes size r (some y) w e h k =
       found = refl;
       within = h y refl;
       sized = ap length (sym same) ∙ num .0;
-      back = ap numberOf (sym same) ∙ num .1;
+      back = ap lowFirstNumber (sym same) ∙ num .1;
     }
 
 -- both searches stay in the range
@@ -161,7 +161,7 @@ Stays next = (r : Range) (x y : ℕ) → next r x ≡ some y → inRange r y ≡
 neighbour-member : (next : Range → ℕ → Option ℕ) → Stays next → (set : Set) (held w : List ℕ) → numbered set ≡ true
     → neighbour next set held ≡ some w → member set w ≡ true
 neighbour-member next stays (Number size r) held w e h =
-    let found : Bytes size r (next r (numberOf held)) w = next-bytes size r (next r (numberOf held)) w e (λ y k. stays r (numberOf held) y k) h in
+    let found : Bytes size r (next r (lowFirstNumber held)) w = next-bytes size r (next r (lowFirstNumber held)) w e (λ y k. stays r (lowFirstNumber held) y k) h in
     rw (eq-eqb (length w) size (found .sized), found .back) (found .within)
 neighbour-member next stays Switch held w e h = absurd (no-value w h)
 neighbour-member next stays (Text shortest longest) held w e h = absurd (no-value w h)

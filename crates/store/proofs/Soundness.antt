@@ -12,15 +12,15 @@ use lib.ListN.{length, getD}
 use Rattle.store.specs.declared.Store.{Store}
 use Rattle.store.specs.Rows.{Row, rows, noRow, rowAt, rowOf, indexOf, known}
 use Rattle.store.specs.Sets.{member}
-use Rattle.store.specs.Layout.{rowCount, longest, fromRoom, valueOf, withValue}
+use Rattle.store.specs.Layout.{rowCount, longest, fromSlot, valueOf, withValue}
 use Rattle.store.specs.Operations.{legal}
 use Rattle.store.specs.Sound.{sound, soundRows}
 use Rattle.store.specs.Laws.{Sized}
 use Rattle.octets.proofs.Booleans.{both-true}
 use Rattle.store.proofs.Bools.{either, not-both, tested}
 use Rattle.store.proofs.Tables.{rows-length, each-row, size-most, found-or-not}
-use Rattle.store.proofs.Frames.{own-room, other-room}
-use Rattle.store.proofs.NewValues.{shortestOf, member-length, read-room}
+use Rattle.store.proofs.Frames.{own-slot, other-slot}
+use Rattle.store.proofs.NewValues.{shortestOf, member-length, read-slot}
 
 -- the row at an index of a list holds a value of its set
 abbrev Holds : Store → List Row → ℕ → Type 0
@@ -64,7 +64,7 @@ held-length s n e k =
 
 -- a stored member is read back
 pub read-value : (s : Store) (n : ℕ) (v : List ℕ) → Sized s → member (rowOf n .set) v ≡ true → valueOf (withValue s n v) n ≡ v
-read-value s n v sized e = ap (fromRoom (rowOf n .set)) (own-room s sized (indexOf n) v) ∙ read-room (rowOf n .set) v e
+read-value s n v sized e = ap (fromSlot (rowOf n .set)) (own-slot s sized (indexOf n) v) ∙ read-slot (rowOf n .set) v e
 
 pub sound-with : (s : Store) (n : ℕ) (v : List ℕ) → Sized s → sound s ≡ true → member (rowOf n .set) v ≡ true → sound (withValue s n v) ≡ true
 sound-with s n v sized e h = all-hold (withValue s n v) rows (λ k q. row (rowAt k .number) (each-holds s rows e k q))
@@ -74,4 +74,4 @@ sound-with s n v sized e h = all-hold (withValue s n v) rows (λ k q. row (rowAt
       where
         choose : (b : Bool) → eqb n m ≡ b → member (rowOf m .set) (valueOf (withValue s n v) m) ≡ true
         choose true p = subst (λ (x : ℕ). member (rowOf x .set) (valueOf (withValue s n v) x) ≡ true) (eqb-true n m p) (ap (member (rowOf n .set)) (read-value s n v sized h) ∙ h)
-        choose false p = ap (λ (l : List ℕ). member (rowOf m .set) (fromRoom (rowOf m .set) l)) (other-room s sized n m v (eqb-false n m p)) ∙ old
+        choose false p = ap (λ (l : List ℕ). member (rowOf m .set) (fromSlot (rowOf m .set) l)) (other-slot s sized n m v (eqb-false n m p)) ∙ old

@@ -9,8 +9,8 @@ use lib.ListN.{length}
 use Rattle.store.specs.declared.Range.{Range}
 use Rattle.store.specs.declared.Store.{Store}
 use Rattle.store.specs.Rows.{Number, rowOf, allows, known, isIdentity}
-use Rattle.store.specs.Sets.{numberOf, inRange}
-use Rattle.store.specs.Layout.{storeSize, roomOf, valueOf}
+use Rattle.store.specs.Sets.{lowFirstNumber, inRange}
+use Rattle.store.specs.Layout.{storeSize, slotOf, valueOf}
 use Rattle.store.specs.Operations.{legal, writeValue, raiseValue, lowerValue, measurement, accepted, stored, affected}
 use Rattle.store.specs.Start.{start}
 use Rattle.store.specs.Sound.{sound}
@@ -43,13 +43,13 @@ SizeKept = (operation : Operation) (store : Store) (n : ℕ) → Sized store →
 abbrev pub OthersKept : Type 0
 OthersKept =
     (operation : Operation) (store : Store) (n other : ℕ) → Sized store → affected n other ≡ false
-    → roomOf (after operation store n) other ≡ roomOf store other
+    → slotOf (after operation store n) other ≡ slotOf store other
 
 -- the ID and the unit type keep their bytes whatever is done
 abbrev pub IdentityKept : Type 0
 IdentityKept =
     (operation : Operation) (store : Store) (n other : ℕ) → Sized store → isIdentity other ≡ true
-    → roomOf (after operation store n) other ≡ roomOf store other
+    → slotOf (after operation store n) other ≡ slotOf store other
 
 -- a value read is the value stored
 abbrev pub ReadBack : Type 0
@@ -90,7 +90,7 @@ pub record Greatest (r : Range) (x y : ℕ) : Type 0 where
 
 -- a parameter's value as a number
 abbrev pub heldNumber : Store → ℕ → ℕ
-heldNumber store n = numberOf (valueOf store n)
+heldNumber store n = lowFirstNumber (valueOf store n)
 
 -- a raise gives the least number above the one held, or there is none and nothing changes
 abbrev pub RaiseLeast : Type 0

@@ -1,4 +1,4 @@
--- Where values stand in the store: the rows' rooms one behind the other, in the table's order.
+-- Where values stand in the store: the rows' slots one after the other, in the table's order.
 use Prim.Native.Nat.{ℕ, suc, _+_, _-_}
 use mathlib.Core.Bool.{Bool, true, false, cond}
 use mathlib.Core.List.{List, [], _∷_, _++_}
@@ -50,35 +50,35 @@ setAt index = rowAt index .set
 abbrev pub placeAt : ℕ → ℕ
 placeAt index = getD (placesFrom 0 rows) index 0
 
--- bytes that fill a room of a size: a longer list is cut, a shorter one followed by zeros
+-- bytes that fill a slot of a size: a longer list is cut, a shorter one followed by zeros
 abbrev pub filled : ℕ → List ℕ → List ℕ
 filled size value = take size value ++ replicate (size - length value) 0
 
--- a value as it stands in its room, and back
-abbrev pub toRoom : Set → List ℕ → List ℕ
-toRoom set value =
+-- a value as it stands in its slot, and back
+abbrev pub toSlot : Set → List ℕ → List ℕ
+toSlot set value =
     cond (isText set)
     (length (take (sizeOf set) value) ∷ filled (sizeOf set) value)
     (filled (sizeOf set) value)
 
-abbrev pub fromRoom : Set → List ℕ → List ℕ
-fromRoom set room = cond (isText set) (take (getD room 0 0) (drop 1 room)) room
+abbrev pub fromSlot : Set → List ℕ → List ℕ
+fromSlot set slot = cond (isText set) (take (getD slot 0 0) (drop 1 slot)) slot
 
-abbrev pub roomAt : List ℕ → ℕ → List ℕ
-roomAt bytes index = take (widthOf (setAt index)) (drop (placeAt index) bytes)
+abbrev pub slotAt : List ℕ → ℕ → List ℕ
+slotAt bytes index = take (widthOf (setAt index)) (drop (placeAt index) bytes)
 
 abbrev pub valueAt : List ℕ → ℕ → List ℕ
-valueAt bytes index = fromRoom (setAt index) (roomAt bytes index)
+valueAt bytes index = fromSlot (setAt index) (slotAt bytes index)
 
 abbrev pub overwritten : Store → ℕ → List ℕ → Store
 overwritten store at bytes = record { bytes = overwrite (store .bytes) at bytes }
 
 abbrev pub withValueAt : Store → ℕ → List ℕ → Store
-withValueAt store index value = overwritten store (placeAt index) (toRoom (setAt index) value)
+withValueAt store index value = overwritten store (placeAt index) (toSlot (setAt index) value)
 
 -- the bytes of the store that are a parameter's own; an unknown parameter has none
-abbrev pub roomOf : Store → ℕ → List ℕ
-roomOf store n = roomAt (store .bytes) (indexOf n)
+abbrev pub slotOf : Store → ℕ → List ℕ
+slotOf store n = slotAt (store .bytes) (indexOf n)
 
 -- the value that a parameter holds
 abbrev pub valueIn : List ℕ → ℕ → List ℕ

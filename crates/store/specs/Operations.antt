@@ -16,7 +16,7 @@ use Rattle.store.specs.declared.Measurement.the-variants.{Accepted, NotM
 use Rattle.store.specs.declared.Range.{Range}
 use Rattle.store.specs.declared.Store.{Store}
 use Rattle.store.specs.Rows.{Set, Switch, Number, Text, Free, Clock, Calendar, rowOf, indexOf, allows, known, isIdentity}
-use Rattle.store.specs.Sets.{numberOf, bytesOf, member, leastAbove, greatestBelow}
+use Rattle.store.specs.Sets.{lowFirstNumber, bytesOf, member, leastAbove, greatestBelow}
 use Rattle.store.specs.Layout.{sizeOf, valueOf, withValue}
 
 -- looking a number up
@@ -51,7 +51,7 @@ writeValue store n value =
 -- a number's neighbour, in as many bytes
 abbrev pub neighbour : (Range → ℕ → Option ℕ) → Set → List ℕ → Option (List ℕ)
 neighbour next Switch held = none
-neighbour next (Number size r) held = Option·map (bytesOf size) (next r (numberOf held))
+neighbour next (Number size r) held = Option·map (bytesOf size) (next r (lowFirstNumber held))
 neighbour next (Text shortest longest) held = none
 neighbour next (Free size) held = none
 neighbour next Clock held = none

@@ -10,8 +10,8 @@ use Rattle.store.specs.declared.Range.{Range}
 use Rattle.store.specs.Rows.{Set, Switch, Number, Text, Free, Clock, Calendar}
 
 -- the number that one or two bytes make, low byte first
-abbrev pub numberOf : List ℕ → ℕ
-numberOf value = getD value 0 0 + 256 * getD value 1 0
+abbrev pub lowFirstNumber : List ℕ → ℕ
+lowFirstNumber value = getD value 0 0 + 256 * getD value 1 0
 
 -- a number in one or two bytes, low byte first
 abbrev pub bytesOf : ℕ → ℕ → List ℕ
@@ -39,7 +39,7 @@ isCalendar v = threeFields 1 31 7 12 v && between 0 99 (getD v 3 0)
 
 abbrev pub member : Set → List ℕ → Bool
 member Switch v = eqb (length v) 1 && leb (getD v 0 0) 1
-member (Number size r) v = eqb (length v) size && inRange r (numberOf v)
+member (Number size r) v = eqb (length v) size && inRange r (lowFirstNumber v)
 member (Text shortest longest) v = between shortest longest (length v) && printable v
 member (Free size) v = eqb (length v) size
 member Clock v = eqb (length v) 3 && isClock v

@@ -8,7 +8,7 @@ use Rattle.store.specs.declared.Range.{Range}
 use Rattle.store.specs.declared.Store.{Store}
 use Rattle.store.specs.Rows.{Set, Switch, Number, Text, Free, Clock, Calendar, Row, rows}
 use Rattle.store.specs.Sets.{bytesOf}
-use Rattle.store.specs.Layout.{toRoom}
+use Rattle.store.specs.Layout.{toSlot}
 
 -- the least number of a range
 abbrev pub least : Range → ℕ
@@ -32,10 +32,10 @@ startValue id r =
     (cond (eqb (r .number) 0x00B9) (2 ∷ 0 ∷ [])
     (lowest (r .set))))))
 
--- the rooms of rows with their start values, one behind the other
-unfoldable pub startRooms : List ℕ → List Row → List ℕ
-startRooms id [] = []
-startRooms id (r ∷ rs) = toRoom (r .set) (startValue id r) ++ startRooms id rs
+-- the slots of rows with their start values, one after the other
+unfoldable pub startSlots : List ℕ → List Row → List ℕ
+startSlots id [] = []
+startSlots id (r ∷ rs) = toSlot (r .set) (startValue id r) ++ startSlots id rs
 
 unfoldable pub start : List ℕ → Store
-start id = record { bytes = startRooms id rows }
+start id = record { bytes = startSlots id rows }

@@ -1,4 +1,4 @@
-// Values in the store's bytes: reading the room of a row, and filling it.
+// Values in the store's bytes: reading the slot of a row, and filling it.
 ghost use mathlib.Core.Path.{_≡_};
 ghost use Prim.Native.Nat.{_+_, _≤_};
 ghost use lib.ListN.{length, take, drop};
@@ -39,9 +39,9 @@ pub fn value_at(bytes: &[u8], index: usize) -> &[u8]
     let place = place_at(index);
     let size = size_at(index);
     if is_text(index) {
-        let length = octets::wide(octets::byte_at(bytes, place));
-        let room = part(bytes, place + 1, size);
-        return part(room, 0, length);
+        let length = octets::to_usize(octets::byte_at(bytes, place));
+        let slot = part(bytes, place + 1, size);
+        return part(slot, 0, length);
     }
     part(bytes, place, size)
 }
@@ -56,7 +56,7 @@ fn put(store: Store, at: usize, bytes: &[u8]) -> Store
     Store { bytes: all }
 }
 
-// The store with a value that fills a room, what it leaves of the room zero.
+// The store with a value that fills a slot, what it leaves of the slot zero.
 fn fill(store: Store, at: usize, size: usize, value: &[u8]) -> Store
     requires { ⌜ (at + size ≤ storeSize) × (size ≤ longest) ⌝ }
     ensures { λ r. ⌜ r ≡ overwritten store at (filled size (now (value .entry))) ⌝ }
@@ -69,7 +69,7 @@ fn fill(store: Store, at: usize, size: usize, value: &[u8]) -> Store
     put(begun, end, part(&zeros, 0, rest))
 }
 
-// The store with another value in the room of the row at an index.
+// The store with another value in the slot of the row at an index.
 pub fn with_value_at(store: Store, index: usize, value: &[u8]) -> Store
     ensures { λ r. ⌜ r ≡ withValueAt store index (now (value .entry)) ⌝ }
 {

@@ -26,11 +26,11 @@ use layout::value_at;
 use layout::with_value_at;
 use sets::Next;
 use sets::is_member;
+use sets::low_first_number;
 use sets::neighbour;
-use sets::number_of;
 use temperatures::store_value;
 
-// A store: each row's value in its room, the rooms one behind the other.
+// A store: each row's value in its slot, the slots one after the other.
 #[repr(C)]
 pub struct Store {
     pub bytes: [u8; 227],
@@ -151,7 +151,7 @@ fn move_to_neighbour(store: Store, number: u16, function: u8, up: bool) -> Store
         return store;
     }
     let bytes = store.bytes;
-    let held = number_of(value_at(&bytes, index));
+    let held = low_first_number(value_at(&bytes, index));
     let Next::To(next) = neighbour(index, held, up) else {
         return store;
     };

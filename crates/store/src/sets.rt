@@ -6,7 +6,7 @@ ghost use lib.ListN.{getD};
 ghost use Rattle.octets.specs.Octets.{between};
 ghost use Rattle.store.specs.Rows.{Switch, Number, Text, Clock, Calendar, rowAt};
 ghost use Rattle.store.specs.Layout.{sizeOf, setAt};
-ghost use Rattle.store.specs.Sets.{numberOf, inRange, printable, threeFields, member, greatest as greatestOf, leastAbove, greatestBelow};
+ghost use Rattle.store.specs.Sets.{lowFirstNumber, inRange, printable, threeFields, member, greatest as greatestOf, leastAbove, greatestBelow};
 ghost use Rattle.store.specs.Columns.{rangeOf};
 ghost use Rattle.store.specs.Next.{nextOf};
 use crate::Quantity;
@@ -23,18 +23,18 @@ pub enum Next {
     Stay,
 }
 
-fn wide(byte: u8) -> u16
+fn to_u16(byte: u8) -> u16
     ensures { λ r. ⌜ r ≡ byte ⌝ }
 {
     byte as u16
 }
 
 // The number that the first two bytes make, low byte first.
-pub fn number_of(value: &[u8]) -> u16
-    ensures { λ r. ⌜ r ≡ numberOf (now (value .entry)) ⌝ }
+pub fn low_first_number(value: &[u8]) -> u16
+    ensures { λ r. ⌜ r ≡ lowFirstNumber (now (value .entry)) ⌝ }
 {
-    let low = wide(octets::byte_at(value, 0));
-    let high = wide(octets::byte_at(value, 1));
+    let low = to_u16(octets::byte_at(value, 0));
+    let high = to_u16(octets::byte_at(value, 1));
     low + 256 * high
 }
 
@@ -117,7 +117,7 @@ fn takes(index: usize, temperature: WholeDegrees) -> bool
     requires { ⌜ rowAt index .quantity ≡ Quantity.WholeDegrees ⌝ }
     ensures { λ r. ⌜ r ≡ inRange (rangeOf (setAt index)) (temperature .degrees) ⌝ }
 {
-    in_range(range_at(index), wide(temperature.degrees))
+    in_range(range_at(index), to_u16(temperature.degrees))
 }
 
 fn is_number(index: usize, value: &[u8]) -> bool
@@ -128,7 +128,7 @@ fn is_number(index: usize, value: &[u8]) -> bool
     }
     let quantity = quantity_at(index);
     let Quantity::WholeDegrees = quantity else {
-        return in_range(range_at(index), number_of(value));
+        return in_range(range_at(index), low_first_number(value));
     };
     let degrees = octets::byte_at(value, 0);
     takes(index, WholeDegrees { degrees })

@@ -13,7 +13,7 @@ use crate::WholeDegrees;
 use crate::columns::index_of;
 use crate::columns::quantity_at;
 use crate::layout::with_value_at;
-use crate::sets::number_of;
+use crate::sets::low_first_number;
 use crate::tenths::Tenths;
 use crate::tenths::bits_of;
 use crate::tenths::tenths_of;
@@ -61,7 +61,7 @@ fn store_measured(store: Store, index: usize, value: &[u8]) -> Store
     requires { ⌜ rowAt index .quantity ≡ Quantity.Tenths ⌝ }
     ensures { λ r. ⌜ r ≡ withValueAt store index (now (value .entry)) ⌝ }
 {
-    let Reading::Temperature(temperature) = reading_of(number_of(value)) else {
+    let Reading::Temperature(temperature) = reading_of(low_first_number(value)) else {
         return with_value_at(store, index, value);
     };
     store_tenths(store, index, temperature)

@@ -9,8 +9,8 @@ use borrow.Author.Needs.{needs}
 use Rattle.commands.proofs.change.Statement.{statement}
 use Rattle.commands.proofs.change.Tie as tie
 
-number-of-requires : tie.Need-number-of-requires
-number-of-requires c κs = search needs
+parameter-number-requires : tie.Need-parameter-number-requires
+parameter-number-requires c κs = search needs
 
 change-entry-requires : tie.Need-change-entry-requires
 change-entry-requires c κs = search needs
@@ -20,7 +20,7 @@ returns c =
     let args = c .before .before .before .before .before .before .args in
     let command = commandOf (args .function) (args .page) (args .low) (now (args .value)) in
     ap (parametersOf (args .parameters .store)) (c .change-entry .ensures)
-    ∙ after-entry (args .parameters) command (c .before .before .number-of .ensures) (c .before .if1 .taken)
+    ∙ after-entry (args .parameters) command (c .before .before .parameter-number .ensures) (c .before .if1 .taken)
 
 change-row-requires : tie.Need-change-row-requires
 change-row-requires c κs = search needs
@@ -30,9 +30,9 @@ returns-2 c =
     let args = c .before .before .before .before .before .before .args in
     let command = commandOf (args .function) (args .page) (args .low) (now (args .value)) in
     ap (λ (store : Store). parametersOf store (args .parameters .schedule)) (c .change-row .ensures)
-    ∙ after-row (args .parameters) command (c .before .before .number-of .ensures) (c .before .if1 .left)
+    ∙ after-row (args .parameters) command (c .before .before .parameter-number .ensures) (c .before .if1 .left)
 
 pub change-spec : {M : Type 1} → statement M
 change-spec =
     tie.close
-    (tie.spec number-of-requires change-entry-requires returns change-row-requires returns-2)
+    (tie.spec parameter-number-requires change-entry-requires returns change-row-requires returns-2)

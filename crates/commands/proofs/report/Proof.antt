@@ -9,8 +9,8 @@ use borrow.Author.Needs.{needs}
 use Rattle.commands.proofs.report.Statement.{statement}
 use Rattle.commands.proofs.report.Tie as tie
 
-number-of-requires : tie.Need-number-of-requires
-number-of-requires c κs = search needs
+parameter-number-requires : tie.Need-parameter-number-requires
+parameter-number-requires c κs = search needs
 
 is-selected-requires : tie.Need-is-selected-requires
 is-selected-requires c κs = search needs
@@ -19,7 +19,7 @@ returns : tie.Need-returns
 returns c =
     let args = c .before .before .before .before .before .args in
     let command = commandOf (args .function) (args .page) (args .low) (now (args .value)) in
-    passed-over (args .scope) (args .parameters) (draftAt (now (args .bytes)) (args .cursor)) command (c .before .before .number-of .ensures) (c .before .is-selected .ensures)
+    passed-over (args .scope) (args .parameters) (draftAt (now (args .bytes)) (args .cursor)) command (c .before .before .parameter-number .ensures) (c .before .is-selected .ensures)
     (not-true _ (c .if1 .taken))
 
 report-entry-requires : tie.Need-report-entry-requires
@@ -33,7 +33,7 @@ returns-2 c =
     let args = c .before .before .before .before .before .before .before .before .before .before .args in
     let command = commandOf (args .function) (args .page) (args .low) (now (args .value)) in
     c .before .before .report-entry .ensures
-    ∙ report-of-entry (args .scope) (args .parameters) (draftAt (now (args .bytes)) (args .cursor)) command (c .before .before .before .before .before .before .before .number-of .ensures)
+    ∙ report-of-entry (args .scope) (args .parameters) (draftAt (now (args .bytes)) (args .cursor)) command (c .before .before .before .before .before .before .before .parameter-number .ensures)
     (c .before .before .before .before .before .before .is-selected .ensures) (not-false _ (c .before .before .before .before .before .if1 .left)) (c .before .before .before .before .if2 .taken)
 
 report-row-requires : tie.Need-report-row-requires
@@ -47,14 +47,14 @@ returns-3 c =
     let args = c .before .before .before .before .before .before .before .before .before .before .args in
     let command = commandOf (args .function) (args .page) (args .low) (now (args .value)) in
     c .before .before .report-row .ensures
-    ∙ report-of-row (args .scope) (args .parameters) (draftAt (now (args .bytes)) (args .cursor)) command (c .before .before .before .before .before .before .before .number-of .ensures)
+    ∙ report-of-row (args .scope) (args .parameters) (draftAt (now (args .bytes)) (args .cursor)) command (c .before .before .before .before .before .before .before .parameter-number .ensures)
     (c .before .before .before .before .before .before .is-selected .ensures) (not-false _ (c .before .before .before .before .before .if1 .left)) (c .before .before .before .before .if2 .left)
 
 pub report-spec : {M : Type 1} → statement M
 report-spec =
     tie.close
     (tie.spec
-    number-of-requires
+    parameter-number-requires
     is-selected-requires
     returns
     report-entry-requires

@@ -13,8 +13,8 @@ use borrow.Author.Needs.{needs}
 use Rattle.commands.proofs.report_row.Statement.{statement}
 use Rattle.commands.proofs.report_row.Tie as tie
 
-number-of-requires : tie.Need-number-of-requires
-number-of-requires c κs = search needs
+parameter-number-requires : tie.Need-parameter-number-requires
+parameter-number-requires c κs = search needs
 
 answered-with-requires : tie.Need-answered-with-requires
 answered-with-requires c κs = search needs
@@ -42,7 +42,7 @@ returns c =
     let args = c .before .before .before .before .before .before .args in
     ap (λ (kind : Answer). drafted (draftAt (now (args .bytes)) (args .cursor)) (rowReport kind (args .t1) (commandOf (args .function) (args .page) (args .low) (now (args .value)))))
     (sym (c .enum-told .given .1) ∙ c .before .before .answered-with .ensures
-    ∙ ap (λ (n : ℕ). answer (args .function) n) (c .before .before .before .number-of .ensures))
+    ∙ ap (λ (n : ℕ). answer (args .function) n) (c .before .before .before .parameter-number .ensures))
 
 same-length : tie.Need-same-length
 same-length c = search needs
@@ -53,7 +53,7 @@ returns-2 c =
     c .before .before .write-unknown .ensures
     ∙ ap (λ (kind : Answer). drafted (draftAt (now (args .bytes)) (args .cursor)) (rowReport kind (args .t1) (commandOf (args .function) (args .page) (args .low) (now (args .value)))))
     (sym (c .before .before .before .before .enum-told2 .given .1) ∙ c .before .before .before .before .before .before .answered-with .ensures
-    ∙ ap (λ (n : ℕ). answer (args .function) n) (c .before .before .before .before .before .before .before .number-of .ensures))
+    ∙ ap (λ (n : ℕ). answer (args .function) n) (c .before .before .before .before .before .before .before .parameter-number .ensures))
 
 same-length-2 : tie.Need-same-length-2
 same-length-2 c = search needs
@@ -61,7 +61,7 @@ same-length-2 c = search needs
 returns-3 : tie.Need-returns-3
 returns-3 c =
     let args = c .before .before .before .before .before .before .before .before .before .before .before .before .before .before .args in
-    let named = c .before .before .before .before .before .before .before .before .before .before .before .number-of .ensures in
+    let named = c .before .before .before .before .before .before .before .before .before .before .before .parameter-number .ensures in
     c .before .before .write-value .ensures
     ∙ ap (λ (value : List ℕ). drafted (draftAt (now (args .bytes)) (args .cursor)) (held (args .page) (args .low) value ∷ [])) (c .before .before .before .held .ensures ∙ ap (valueIn (args .t1 .bytes)) named)
     ∙ ap (λ (kind : Answer). drafted (draftAt (now (args .bytes)) (args .cursor)) (rowReport kind (args .t1) (commandOf (args .function) (args .page) (args .low) (now (args .value)))))
@@ -72,7 +72,7 @@ pub report-row-spec : {M : Type 1} → statement M
 report-row-spec =
     tie.close
     (tie.spec
-    number-of-requires
+    parameter-number-requires
     answered-with-requires
     enum-told
     enum-told-2

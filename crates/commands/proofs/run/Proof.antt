@@ -8,14 +8,14 @@ use denote.Ref.{now}
 use borrow.Author.Needs.{needs}
 use lib.ListN.{length}
 use Rattle.block.specs.Command.{Command, commandOf}
-use Rattle.block.specs.Reading.{between}
+use Rattle.block.specs.Reading.{partOf}
 use Rattle.block.specs.declared.request.NextCommand.{NextCommand}
 use Rattle.block.specs.Request.{commandsFrom}
 use Rattle.block.specs.Statements.{commandsAfter}
 use Rattle.block.proofs.Commands.{commands-step, command-shorter}
-use Rattle.commands.specs.declared.Ran.{Ran}
+use Rattle.commands.specs.declared.RunResult.{RunResult}
 use Rattle.commands.specs.declared.draft.Draft.{Draft}
-use Rattle.commands.specs.Draft.{blank, draftAt, exceeded, ranBehind, ranBlock, ranOf}
+use Rattle.commands.specs.Draft.{blank, draftAt, exceeded, runFrom, runBlock, runResult}
 use Rattle.commands.proofs.Turns.{Settled, ran-none, settled-again, turn-left, turn-over}
 use Rattle.commands.proofs.run.Statement.{statement}
 use Rattle.commands.proofs.run.Tie as tie
@@ -23,14 +23,14 @@ use Rattle.commands.proofs.run.Tie as tie
 abbrev Inv-loop : tie.InvT-loop
 Inv-loop scope parameters function bytes rest₀ page₀ in-force₀ held₀ draft₀ cursor₀ rest page in-force held draft cursor =
     Settled (draftAt draft cursor)
-    × (ranBehind (ranOf parameters (exceeded blank)) scope held (draftAt draft cursor) (commandsFrom page in-force rest) ≡ ranBlock scope parameters function bytes)
+    × (runFrom (runResult parameters (exceeded blank)) scope held (draftAt draft cursor) (commandsFrom page in-force rest) ≡ runBlock scope parameters function bytes)
 
 abbrev μ-loop : tie.MeasureT-loop
 μ-loop scope parameters function bytes rest₀ page₀ in-force₀ held₀ draft₀ cursor₀ rest page in-force held draft cursor = length rest
 
 -- where the run stops if it is not finished, and what is written at a turn
-abbrev stop : tie.At-loop Inv-loop μ-loop → Ran
-stop c = ranOf (c .before .before .args .parameters) (exceeded blank)
+abbrev stop : tie.At-loop Inv-loop μ-loop → RunResult
+stop c = runResult (c .before .before .args .parameters) (exceeded blank)
 
 abbrev written : tie.At-loop Inv-loop μ-loop → Draft
 written c = draftAt (c .loop .draft) (c .loop .cursor)
@@ -38,36 +38,36 @@ written c = draftAt (c .loop .draft) (c .loop .cursor)
 -- the commands that are left, by what stands first
 by-first :
     (c : tie.After-next-command Inv-loop μ-loop) {first : NextCommand} → c .next-command .result ≡ first
-    → ranBehind (stop (c .before)) (c .before .before .before .args .scope) (c .before .loop .held) (written (c .before)) (commandsAfter commandsFrom (c .before .loop .rest .now) first)
-    ≡ ranBlock (c .before .before .before .args .scope) (c .before .before .before .args .parameters) (c .before .before .before .args .function) (now (c .before .before .before .args .bytes))
+    → runFrom (stop (c .before)) (c .before .before .before .args .scope) (c .before .loop .held) (written (c .before)) (commandsAfter commandsFrom (c .before .loop .rest .now) first)
+    ≡ runBlock (c .before .before .before .args .scope) (c .before .before .before .args .parameters) (c .before .before .before .args .function) (now (c .before .before .before .args .bytes))
 by-first c e =
     let t = c .before .loop in
-    ap (ranBehind (stop (c .before)) (c .before .before .before .args .scope) (t .held) (written (c .before)))
+    ap (runFrom (stop (c .before)) (c .before .before .before .args .scope) (t .held) (written (c .before)))
     (sym (commands-step (t .page) (t .in-force) (t .rest .now) ∙ ap (commandsAfter commandsFrom (t .rest .now)) (sym (c .next-command .ensures) ∙ e)))
     ∙ t .inv .1
 
--- the command of a turn, and those behind it
+-- the command of a turn, and those after it
 abbrev command : tie.After-part Inv-loop μ-loop → Command
 command c =
-    let called = c .before .before .called .given .0 in
-    commandOf (called .0) (called .1 .0) (called .1 .1 .0) (now (c .part .result))
+    let next-function = c .before .before .next-function .given .0 in
+    commandOf (next-function .0) (next-function .1 .0) (next-function .1 .1 .0) (now (c .part .result))
 
 abbrev left : tie.After-part Inv-loop μ-loop → Option (List Command)
 left c =
-    let called = c .before .before .called .given .0 in
-    commandsFrom (called .1 .0) (called .0) (between (called .1 .1 .1 .1 .0) 0 (c .before .before .before .before .before .loop .rest .now))
+    let next-function = c .before .before .next-function .given .0 in
+    commandsFrom (next-function .1 .0) (next-function .0) (partOf (next-function .1 .1 .1 .1 .0) 0 (c .before .before .before .before .before .loop .rest .now))
 
 by-command :
     (c : tie.After-part Inv-loop μ-loop)
-    → ranBehind (stop (c .before .before .before .before .before)) (c .before .before .before .before .before .before .before .args .scope) (c .before .before .before .before .before .loop .held) (written (c .before .before .before .before .before))
+    → runFrom (stop (c .before .before .before .before .before)) (c .before .before .before .before .before .before .before .args .scope) (c .before .before .before .before .before .loop .held) (written (c .before .before .before .before .before))
     (Option·map (λ (cs : List Command). command c ∷ cs) (left c))
-    ≡ ranBlock (c .before .before .before .before .before .before .before .args .scope) (c .before .before .before .before .before .before .before .args .parameters) (c .before .before .before .before .before .before .before .args .function) (now (c .before .before .before .before .before .before .before .args .bytes))
+    ≡ runBlock (c .before .before .before .before .before .before .before .args .scope) (c .before .before .before .before .before .before .before .args .parameters) (c .before .before .before .before .before .before .before .args .function) (now (c .before .before .before .before .before .before .before .args .bytes))
 by-command c =
-    let called = c .before .before .called .given .0 in
+    let next-function = c .before .before .next-function .given .0 in
     let t = c .before .before .before .before .before in
-    ap (λ (value : List ℕ). ranBehind (stop t) (t .before .before .args .scope) (t .loop .held) (written t) (Option·map (λ (cs : List Command). commandOf (called .0) (called .1 .0) (called .1 .1 .0) value ∷ cs) (left c)))
+    ap (λ (value : List ℕ). runFrom (stop t) (t .before .before .args .scope) (t .loop .held) (written t) (Option·map (λ (cs : List Command). commandOf (next-function .0) (next-function .1 .0) (next-function .1 .1 .0) value ∷ cs) (left c)))
     (c .part .ensures)
-    ∙ by-first (c .before .before .before .before) (c .before .before .called .given .1)
+    ∙ by-first (c .before .before .before .before) (c .before .before .next-function .given .1)
 
 loop-holds : tie.Need-loop-holds Inv-loop μ-loop
 loop-holds c = (record { whole = refl; left = refl; inside = omega arith }, refl)
@@ -95,8 +95,8 @@ stopped-requires c κs = tt
 returns-2 : tie.Need-returns-2 Inv-loop μ-loop
 returns-2 c = c .stopped .ensures ∙ by-first (c .before .before .before) (c .before .enum-told2 .given .1)
 
-enum-known-called : tie.Need-enum-known-called Inv-loop μ-loop
-enum-known-called c = search needs
+enum-known-next-function : tie.Need-enum-known-next-function Inv-loop μ-loop
+enum-known-next-function c = search needs
 
 part-requires : tie.Need-part-requires Inv-loop μ-loop
 part-requires c κs = tt
@@ -135,7 +135,7 @@ loop-less : tie.Need-loop-less Inv-loop μ-loop
 loop-less c =
     let k = c .before .before .before .before .before .before .before .before .before .before .before in
     let v = k .before .loop in
-    rw (c .part2 .ensures) (command-shorter 5 (v .page) (v .in-force) (v .rest .now) (sym (k .next-command .ensures) ∙ c .before .before .before .before .before .before .before .before .before .called .given .1))
+    rw (c .part2 .ensures) (command-shorter 5 (v .page) (v .in-force) (v .rest .now) (sym (k .next-command .ensures) ∙ c .before .before .before .before .before .before .before .before .before .next-function .given .1))
 
 loop-again : tie.Need-loop-again Inv-loop μ-loop
 loop-again c =
@@ -162,7 +162,7 @@ run-spec =
     enum-told-2
     stopped-requires
     returns-2
-    enum-known-called
+    enum-known-next-function
     part-requires
     change-requires
     slice-aggregate-report

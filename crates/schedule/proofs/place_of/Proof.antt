@@ -5,14 +5,14 @@ use Rattle.schedule.proofs.Places.{bounds}
 use Rattle.schedule.proofs.place_of.Statement.{statement}
 use Rattle.schedule.proofs.place_of.Tie as tie
 
-wide-requires : tie.Need-wide-requires
-wide-requires c κs = search needs
+to-usize-requires : tie.Need-to-usize-requires
+to-usize-requires c κs = search needs
 
 mul-result : tie.Need-mul-result
 mul-result c = search needs
 
-wide-requires-2 : tie.Need-wide-requires-2
-wide-requires-2 c κs = search needs
+to-usize-requires-2 : tie.Need-to-usize-requires-2
+to-usize-requires-2 c κs = search needs
 
 add-result : tie.Need-add-result
 add-result c = search needs
@@ -31,4 +31,4 @@ returns c =
 
 pub place-of-spec : {M : Type 1} → statement M
 place-of-spec =
-    tie.close (tie.spec wide-requires mul-result wide-requires-2 add-result sub-result returns)
+    tie.close (tie.spec to-usize-requires mul-result to-usize-requires-2 add-result sub-result returns)

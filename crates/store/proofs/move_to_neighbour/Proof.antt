@@ -33,8 +33,8 @@ slice-aggregate-value-at c = search needs
 value-at-requires : tie.Need-value-at-requires
 value-at-requires c κs = search needs
 
-number-of-requires : tie.Need-number-of-requires
-number-of-requires c κs = search needs
+low-first-number-requires : tie.Need-low-first-number-requires
+low-first-number-requires c κs = search needs
 
 neighbour-requires : tie.Need-neighbour-requires
 neighbour-requires c κs = search needs
@@ -57,7 +57,7 @@ returns-3 c =
     (rw index at (sym (number .before .kind-at .ensures) ∙ number .if2 .left))
     (sym (c .enum-told .given .1)
     ∙ asked .neighbour .ensures
-    ∙ rw (asked .before .number-of .ensures, asked .before .before .value-at .ensures, index)))
+    ∙ rw (asked .before .low-first-number .ensures, asked .before .before .value-at .ensures, index)))
 
 cast-low : tie.Need-cast-low
 cast-low c = search needs
@@ -91,7 +91,7 @@ returns-4 c =
     (rw index at (sym (number .before .kind-at .ensures) ∙ number .if2 .left))
     (sym (found .next .given .1)
     ∙ asked .neighbour .ensures
-    ∙ rw (asked .before .number-of .ensures, asked .before .before .value-at .ensures, index)))
+    ∙ rw (asked .before .low-first-number .ensures, asked .before .before .value-at .ensures, index)))
 
 pub move-to-neighbour-spec : {M : Type 1} → statement M
 move-to-neighbour-spec =
@@ -104,7 +104,7 @@ move-to-neighbour-spec =
     returns-2
     slice-aggregate-value-at
     value-at-requires
-    number-of-requires
+    low-first-number-requires
     neighbour-requires
     enum-known-next
     enum-told

@@ -5,7 +5,7 @@ use borrow.Author.Needs.{needs}
 use Rattle.store.proofs.Starts.{blank, start-with}
 use Rattle.store.specs.Layout.{withValueAt}
 use Rattle.store.specs.Rows.{rows}
-use Rattle.store.specs.Start.{lowest, startValue, startRooms, start}
+use Rattle.store.specs.Start.{lowest, startValue, startSlots, start}
 use Rattle.store.proofs.start.Statement.{statement}
 use Rattle.store.proofs.start.Tie as tie
 
@@ -19,7 +19,7 @@ with-value-at-requires : tie.Need-with-value-at-requires
 with-value-at-requires c κs = search needs
 
 returns : tie.Need-returns
-unfolding rows lowest startValue startRooms start blank
+unfolding rows lowest startValue startSlots start blank
 returns c =
     let id = c .before .before .before .args .t1 in
     c .with-value-at .ensures ∙ ap (λ (k : ℕ). withValueAt blank k id) (c .before .before .index-of .ensures) ∙ start-with id

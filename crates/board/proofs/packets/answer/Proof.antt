@@ -20,12 +20,12 @@ asked c =
     let args = c .before .before .before .before .before .before .before .before .before .before .args in
     requestOf (args .board) (frame (now (args .id)) (now (args .password)) (args .function) (now (args .bytes)))
 
-wide-requires : tie.Need-wide-requires
-wide-requires c κs = search needs
+to-usize-requires : tie.Need-to-usize-requires
+to-usize-requires c κs = search needs
 
 -- the size of the board's password is within its array
-sized : (c : tie.After-wide) → c .wide .result ≤ length (c .before .before .before .before .before .before .before .args .board .password)
-sized c = let whole : length (c .before .before .before .before .before .before .before .args .board .password) ≡ 8 = search needs in omega (arith, c .wide .ensures, c .before .before .before .before .before .before .before .pre)
+sized : (c : tie.After-to-usize) → c .to-usize .result ≤ length (c .before .before .before .before .before .before .before .args .board .password)
+sized c = let whole : length (c .before .before .before .before .before .before .before .args .board .password) ≡ 8 = search needs in omega (arith, c .to-usize .ensures, c .before .before .before .before .before .before .before .pre)
 
 array-share-prefix-stored : tie.Need-array-share-prefix-stored
 array-share-prefix-stored c = sized c
@@ -44,7 +44,7 @@ judged-right c =
     let args = c .before .before .before .before .before .before .before .before .before .before .args in
     let f = frame (now (args .id)) (now (args .password)) (args .function) (now (args .bytes)) in
     c .judge .ensures
-    ∙ ap (λ (size : ℕ). judged (requestOf (startBoard (setUp (args .board .id) (take size (args .board .password)) (args .board .mode))) f)) (c .before .before .before .wide .ensures)
+    ∙ ap (λ (size : ℕ). judged (requestOf (startBoard (setUp (args .board .id) (take size (args .board .password)) (args .board .mode))) f)) (c .before .before .before .to-usize .ensures)
     ∙ judged-by-identity (args .board) f
 
 enum-known-judged : tie.Need-enum-known-judged
@@ -80,7 +80,7 @@ pub answer-spec : {M : Type 1} → statement M
 answer-spec =
     tie.close
     (tie.spec
-    wide-requires
+    to-usize-requires
     array-share-prefix-stored
     slice-aggregate-secret
     slice-aggregate-judge

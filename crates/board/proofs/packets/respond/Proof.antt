@@ -6,7 +6,7 @@ use denote.Ref.{now}
 use Rattle.framing.specs.Frame.{frame}
 use Rattle.board.specs.Answering.{respondedWith}
 use Rattle.model.specs.Step.{requestOf}
-use Rattle.commands.specs.declared.Ran.{Ran}
+use Rattle.commands.specs.declared.RunResult.{RunResult}
 use Rattle.model.specs.declared.Answer.the-variants.{Response}
 use Rattle.board.proofs.Responding.{leaves, ran-inside, responded-over, responded-silent, responded-long, responded-full}
 use Rattle.framing.proofs.Answers.{frame-written, frame-not-written}
@@ -32,7 +32,7 @@ returns c =
     let request = requestOf (args .board) (frame (now (args .id)) (now (args .password)) (args .function) (now (args .bytes))) in
     let buffer = now (args .response) in
     let ran = c .before .before .before .before .run .result in
-    let run = ap (λ (ran : Ran). respondedWith ran request buffer) (sym (c .before .before .before .before .run .ensures)) in
+    let run = ap (λ (ran : RunResult). respondedWith ran request buffer) (sym (c .before .before .before .before .run .ensures)) in
     leaves (run ∙ responded-over ran request buffer (c .before .enum-told2 .given .1)) (c .refused .ensures .0) (c .refused .ensures .1) refl
 
 with-parameters-requires : tie.Need-with-parameters-requires
@@ -44,7 +44,7 @@ returns-2 c =
     let request = requestOf (args .board) (frame (now (args .id)) (now (args .password)) (args .function) (now (args .bytes))) in
     let buffer = now (args .response) in
     let ran = c .before .before .before .before .before .run .result in
-    let run = ap (λ (ran : Ran). respondedWith ran request buffer) (sym (c .before .before .before .before .before .run .ensures)) in
+    let run = ap (λ (ran : RunResult). respondedWith ran request buffer) (sym (c .before .before .before .before .before .run .ensures)) in
     leaves (run ∙ responded-silent ran request buffer (c .before .before .enum-told .given .1) (c .if1 .taken)) (c .before .with-parameters .ensures) refl refl
 
 slice-aggregate-write : tie.Need-slice-aggregate-write
@@ -77,7 +77,7 @@ returns-3 c =
     let request = requestOf (args .board) (frame (now (args .id)) (now (args .password)) (args .function) (now (args .bytes))) in
     let buffer = now (args .response) in
     let ran = c .before .before .before .before .before .before .before .before .before .before .before .before .before .before .before .before .run .result in
-    let run = ap (λ (ran : Ran). respondedWith ran request buffer) (sym (c .before .before .before .before .before .before .before .before .before .before .before .before .before .before .before .before .run .ensures)) in
+    let run = ap (λ (ran : RunResult). respondedWith ran request buffer) (sym (c .before .before .before .before .before .before .before .before .before .before .before .before .before .before .before .before .run .ensures)) in
     let unwritten = frame-not-written (c .before .before .before .before .before .write .ensures) (c .before .enum-told3 .given .1) in
     leaves (run ∙ responded-long ran request buffer (c .before .before .before .before .before .before .before .before .before .before .before .before .before .enum-told .given .1) (c .before .before .before .before .before .before .before .before .before .before .before .if1 .left) (unwritten .0)) (c .refused2 .ensures .0) (c .refused2 .ensures .1) (unwritten .1)
 
@@ -90,7 +90,7 @@ returns-4 c =
     let request = requestOf (args .board) (frame (now (args .id)) (now (args .password)) (args .function) (now (args .bytes))) in
     let buffer = now (args .response) in
     let ran = c .before .before .before .before .before .before .before .before .before .before .before .before .before .before .before .before .run .result in
-    let run = ap (λ (ran : Ran). respondedWith ran request buffer) (sym (c .before .before .before .before .before .before .before .before .before .before .before .before .before .before .before .before .run .ensures)) in
+    let run = ap (λ (ran : RunResult). respondedWith ran request buffer) (sym (c .before .before .before .before .before .before .before .before .before .before .before .before .before .before .before .before .run .ensures)) in
     let written = frame-written (c .before .before .before .before .before .write .ensures) (c .before .written .given .1) in
     leaves (run ∙ responded-full ran request buffer (c .before .before .before .before .before .before .before .before .before .before .before .before .before .enum-told .given .1) (c .before .before .before .before .before .before .before .before .before .before .before .if1 .left) (written .0)) (c .before .before .before .before .before .before .before .before .before .before .before .before .with-parameters .ensures) (ap Response (written .1)) (c .before .before .before .before .before .write .ensures .held ∙ rw (written .0))
 

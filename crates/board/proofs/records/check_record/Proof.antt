@@ -35,13 +35,13 @@ returns c =
     let board = c .before .before .before .before .before .args .board in
     sym (ap (λ (right : Bool). checked (not right)) (unsound-id board (not-true _ (failed _ (c .before .before .check-id .ensures) (c .enum-told2 .given .1)))))
 
-wide-requires : tie.Need-wide-requires
-wide-requires c κs = search needs
+to-usize-requires : tie.Need-to-usize-requires
+to-usize-requires c κs = search needs
 
 returns-2 : tie.Need-returns-2
 returns-2 c =
     let board = c .before .before .before .before .before .before .before .args .board in
-    let long : 8 < board .size = omega (arith, c .before .wide .ensures) in
+    let long : 8 < board .size = omega (arith, c .before .to-usize .ensures) in
     sym (ap (λ (right : Bool). checked (not right)) (unsound-size board (lt-leb _ _ long)))
 
 array-share-prefix-password : tie.Need-array-share-prefix-password
@@ -63,10 +63,10 @@ returns-3 : tie.Need-returns-3
 returns-3 c =
     let board = c .before .before .before .before .before .before .before .before .before .before .before .before .args .board in
     let whole : length (c .before .before .before .before .before .before .before .before .before .before .before .before .args .board .password) ≡ 8 = search needs in
-    let size = c .before .before .before .before .before .before .wide .result in
+    let size = c .before .before .before .before .before .before .to-usize .result in
     let short : length (take size (board .password)) ≤ 8 = omega (arith, length-take-le size (board .password) (omega arith)) in
     let wrong = not-true _ (failed _ (c .before .before .check-new-password .ensures) (c .enum-told4 .given .1)) in
-    sym (ap (λ (right : Bool). checked (not right)) (unsound-password board (ap (λ (n : ℕ). allAlphanumeric (take n (board .password))) (sym (c .before .before .before .before .before .before .wide .ensures)) ∙ wrong-characters (take size (board .password)) short wrong)))
+    sym (ap (λ (right : Bool). checked (not right)) (unsound-password board (ap (λ (n : ℕ). allAlphanumeric (take n (board .password))) (sym (c .before .before .before .before .before .before .to-usize .ensures)) ∙ wrong-characters (take size (board .password)) short wrong)))
 
 check-mode-requires : tie.Need-check-mode-requires
 check-mode-requires c κs = search needs
@@ -96,14 +96,14 @@ check-rows-requires c κs = search needs
 returns-6 : tie.Need-returns-6
 returns-6 c =
     let board = c .before .before .before .before .before .before .before .before .before .before .before .before .before .before .before .before .before .before .before .args .board in
-    let size = c .before .before .before .before .before .before .before .before .before .before .before .before .before .wide .result in
+    let size = c .before .before .before .before .before .before .before .before .before .before .before .before .before .to-usize .result in
     let sized : Sized (board .parameters) = record { store = search needs; schedule = search (needs, unmapped) } in
-    let short : board .size ≤ 8 = omega (arith, c .before .before .before .before .before .before .before .before .before .before .before .before .before .wide .ensures) in
+    let short : board .size ≤ 8 = omega (arith, c .before .before .before .before .before .before .before .before .before .before .before .before .before .to-usize .ensures) in
     let right = not-false _ (passed _ (c .before .before .before .before .before .before .before .before .before .check-new-password .ensures) (c .before .before .before .before .before .before .before .enum-told3 .given .1)) in
     let characters = both-true (leb (length (take size (board .password))) 8) _ right .1 in
     c .check-rows .ensures
     ∙ sym (ap (λ (right : Bool). checked (not right)) (sound-rows board (not-false _ (passed _ (c .before .before .before .before .before .before .before .before .before .before .before .before .before .before .before .before .check-id .ensures) (c .before .before .before .before .before .before .before .before .before .before .before .before .before .before .enum-told .given .1))) (le-leb _ _ short)
-    (ap (λ (n : ℕ). allAlphanumeric (take n (board .password))) (sym (c .before .before .before .before .before .before .before .before .before .before .before .before .before .wide .ensures)) ∙ characters)
+    (ap (λ (n : ℕ). allAlphanumeric (take n (board .password))) (sym (c .before .before .before .before .before .before .before .before .before .before .before .before .before .to-usize .ensures)) ∙ characters)
     (not-false _ (passed _ (c .before .before .before .before .before .before .check-mode .ensures) (c .before .before .before .before .enum-told5 .given .1)))
     sized (sym (c .before .before .sound .ensures) ∙ not-false _ (c .before .if2 .left))))
 
@@ -116,7 +116,7 @@ check-record-spec =
     enum-told
     enum-told-2
     returns
-    wide-requires
+    to-usize-requires
     returns-2
     array-share-prefix-password
     slice-aggregate-check-new-password

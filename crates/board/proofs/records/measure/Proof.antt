@@ -32,15 +32,15 @@ measure-requires c κs = search needs
 enum-told-3 : tie.Need-enum-told-3
 enum-told-3 c = search needs
 
-number-of-requires : tie.Need-number-of-requires
-number-of-requires c κs = search needs
+refusal-number-requires : tie.Need-refusal-number-requires
+refusal-number-requires c κs = search needs
 
 returns-2 : tie.Need-returns-2
 returns-2 c =
     let args = c .before .before .before .before .before .before .before .before .args in
     let call = measureCall (args .board) (args .number) (now (args .value)) in
     let right = passed _ (c .before .before .before .before .before .before .check-record .ensures) (c .before .before .before .before .enum-told .given .1) in
-    measured-as call (measure-refused call right (c .before .before .measure .ensures .answered) (c .before .match2 .keys2)) (ap Refused (c .number-of .ensures)) refl
+    measured-as call (measure-refused call right (c .before .before .measure .ensures .answered) (c .before .match2 .keys2)) (ap Refused (c .refusal-number .ensures)) refl
 
 with-parameters-requires : tie.Need-with-parameters-requires
 with-parameters-requires c κs = search needs
@@ -65,7 +65,7 @@ measure-spec =
     returns
     measure-requires
     enum-told-3
-    number-of-requires
+    refusal-number-requires
     returns-2
     with-parameters-requires
     returns-3)

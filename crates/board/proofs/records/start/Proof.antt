@@ -11,11 +11,11 @@ use borrow.Author.Needs.{needs}
 use Rattle.board.proofs.records.start.Statement.{statement}
 use Rattle.board.proofs.records.start.Tie as tie
 
-in-sixteen-requires : tie.Need-in-sixteen-requires
-in-sixteen-requires c κs = search needs
+padded-id-requires : tie.Need-padded-id-requires
+padded-id-requires c κs = search needs
 
-in-eight-requires : tie.Need-in-eight-requires
-in-eight-requires c κs = search needs
+padded-password-requires : tie.Need-padded-password-requires
+padded-password-requires c κs = search needs
 
 cast-t7 : tie.Need-cast-t7
 cast-t7 c = search needs
@@ -27,15 +27,15 @@ returns : tie.Need-returns
 returns c =
     let args = c .before .before .before .before .before .args in
     λ i. record {
-      id = c .before .before .in-sixteen .ensures i;
-      password = c .before .in-eight .ensures i;
+      id = c .before .before .padded-id .ensures i;
+      password = c .before .padded-password .ensures i;
       size = length (now (args .password));
       mode = args .mode;
       parameters =
-          (c .start-parameters .ensures ∙ ap (λ (id : List ℕ). parametersOf (startRows id) startEntries) (c .before .before .in-sixteen .ensures)) i;
+          (c .start-parameters .ensures ∙ ap (λ (id : List ℕ). parametersOf (startRows id) startEntries) (c .before .before .padded-id .ensures)) i;
     }
 
 pub start-spec : {M : Type 1} → statement M
 start-spec =
     tie.close
-    (tie.spec in-sixteen-requires in-eight-requires cast-t7 start-parameters-requires returns)
+    (tie.spec padded-id-requires padded-password-requires cast-t7 start-parameters-requires returns)

@@ -26,8 +26,8 @@ returns c = search needs
 mul-value : tie.Need-mul-value Inv-loop μ-loop
 mul-value c = search needs
 
-wide-requires : tie.Need-wide-requires Inv-loop μ-loop
-wide-requires c κs = search needs
+to-usize-requires : tie.Need-to-usize-requires Inv-loop μ-loop
+to-usize-requires c κs = search needs
 
 add-value : tie.Need-add-value Inv-loop μ-loop
 add-value c = search needs
@@ -58,7 +58,7 @@ digits-spec =
     digit-requires
     returns
     mul-value
-    wide-requires
+    to-usize-requires
     add-value
     returns-2
     add-i

@@ -33,8 +33,8 @@ first-requires c κs = search needs
 answer-requires : tie.Need-answer-requires Inv-loop μ-loop
 answer-requires c κs = search needs
 
-add-behind : tie.Need-add-behind Inv-loop μ-loop
-add-behind c = search needs
+add-after : tie.Need-add-after Inv-loop μ-loop
+add-after c = search needs
 
 sub-rest : tie.Need-sub-rest Inv-loop μ-loop
 sub-rest c = search needs
@@ -64,7 +64,7 @@ answer-lines-spec =
     returns
     first-requires
     answer-requires
-    add-behind
+    add-after
     sub-rest
     part-rest-start
     part-rest-end

@@ -37,8 +37,8 @@ same-length-2 c = search needs
 returns-2 : tie.Need-returns-2 Inv-loop μ-loop
 returns-2 c = search needs
 
-enum-known-named : tie.Need-enum-known-named Inv-loop μ-loop
-enum-known-named c = search needs
+enum-known-next-page : tie.Need-enum-known-next-page Inv-loop μ-loop
+enum-known-next-page c = search needs
 
 part-requires : tie.Need-part-requires Inv-loop μ-loop
 part-requires c κs = search needs
@@ -53,13 +53,13 @@ loop-less : tie.Need-loop-less Inv-loop μ-loop
 loop-less c =
     let asked = c .before .before .before .before .before .before .before .before .before in
     rw (c .part2 .ensures)
-    (report-shorter (asked .before .loop .page) (now (asked .before .loop .left)) (ap restIn (sym (asked .next-report .ensures) ∙ c .before .before .before .before .before .before .before .named .given .1)))
+    (report-shorter (asked .before .loop .page) (now (asked .before .loop .left)) (ap restIn (sym (asked .next-report .ensures) ∙ c .before .before .before .before .before .before .before .next-page .given .1)))
 
 loop-again : tie.Need-loop-again Inv-loop μ-loop
 loop-again c = search needs
 
-enum-known-named-2 : tie.Need-enum-known-named-2 Inv-loop μ-loop
-enum-known-named-2 c = search needs
+enum-known-next-page-2 : tie.Need-enum-known-next-page-2 Inv-loop μ-loop
+enum-known-next-page-2 c = search needs
 
 put-unknown-requires : tie.Need-put-unknown-requires Inv-loop μ-loop
 put-unknown-requires c κs = search needs
@@ -71,7 +71,7 @@ loop-less-2 : tie.Need-loop-less-2 Inv-loop μ-loop
 loop-less-2 c =
     let asked = c .before .before .before .before .before .before .before .before in
     rw (c .part3 .ensures)
-    (report-shorter (asked .before .loop .page) (now (asked .before .loop .left)) (ap restIn (sym (asked .next-report .ensures) ∙ c .before .before .before .before .before .before .named2 .given .1)))
+    (report-shorter (asked .before .loop .page) (now (asked .before .loop .left)) (ap restIn (sym (asked .next-report .ensures) ∙ c .before .before .before .before .before .before .next-page2 .given .1)))
 
 loop-again-2 : tie.Need-loop-again-2 Inv-loop μ-loop
 loop-again-2 c = search needs
@@ -90,13 +90,13 @@ put-reports-spec =
     enum-told-2
     same-length-2
     returns-2
-    enum-known-named
+    enum-known-next-page
     part-requires
     put-held-requires
     part-requires-2
     loop-less
     loop-again
-    enum-known-named-2
+    enum-known-next-page-2
     put-unknown-requires
     part-requires-3
     loop-less-2

@@ -25,8 +25,8 @@ first-requires c κs = search needs
 read-command-requires : tie.Need-read-command-requires Inv-loop μ-loop
 read-command-requires c κs = search needs
 
-enum-known-called : tie.Need-enum-known-called Inv-loop μ-loop
-enum-known-called c = search needs
+enum-known-next-function : tie.Need-enum-known-next-function Inv-loop μ-loop
+enum-known-next-function c = search needs
 
 enum-told : tie.Need-enum-told Inv-loop μ-loop
 enum-told c = search needs
@@ -73,8 +73,8 @@ put-number-requires-2 c κs = search needs
 add-count : tie.Need-add-count Inv-loop μ-loop
 add-count c = search needs
 
-behind-requires : tie.Need-behind-requires Inv-loop μ-loop
-behind-requires c κs = search needs
+after-requires : tie.Need-after-requires Inv-loop μ-loop
+after-requires c κs = search needs
 
 loop-less : tie.Need-loop-less Inv-loop μ-loop
 loop-less c = search needs
@@ -106,7 +106,7 @@ read-commands-spec =
     loop-holds
     first-requires
     read-command-requires
-    enum-known-called
+    enum-known-next-function
     enum-told
     same-length
     same-length-2
@@ -122,7 +122,7 @@ read-commands-spec =
     put-number-requires
     put-number-requires-2
     add-count
-    behind-requires
+    after-requires
     loop-less
     loop-again
     same-length-9

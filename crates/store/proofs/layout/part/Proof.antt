@@ -2,7 +2,7 @@
 use native.Mathlib.Nat.{add-sub-cancel-left}
 use borrow.Author.Needs.{needs}
 use denote.Ref.{now}
-use Rattle.store.proofs.Rooms.{part-past, part-rest}
+use Rattle.store.proofs.Slots.{part-past, part-rest}
 use Rattle.store.proofs.layout.part.Statement.{statement}
 use Rattle.store.proofs.layout.part.Tie as tie
 

@@ -1,7 +1,7 @@
 -- `layout::put` meets its contract.
 use borrow.Author.Needs.{needs}
 use denote.Ref.{now}
-use Rattle.store.proofs.Rooms.{put-eq}
+use Rattle.store.proofs.Slots.{put-eq}
 use Rattle.store.proofs.layout.put.Statement.{statement}
 use Rattle.store.proofs.layout.put.Tie as tie
 

@@ -3,7 +3,7 @@ use native.Mathlib.Omega.{arith}
 use mathlib.Core.Path.{sym, _∙_}
 use borrow.Author.Needs.{needs}
 use denote.Ref.{now}
-use Rattle.store.proofs.Rooms.{place-within, value-plain, value-text}
+use Rattle.store.proofs.Slots.{place-within, value-plain, value-text}
 use Rattle.store.specs.Layout.{setAt, placeAt}
 use Rattle.store.proofs.layout.value_at.Statement.{statement}
 use Rattle.store.proofs.layout.value_at.Tie as tie
@@ -20,8 +20,8 @@ is-text-requires c κs = search needs
 byte-at-requires : tie.Need-byte-at-requires
 byte-at-requires c κs = search needs
 
-wide-requires : tie.Need-wide-requires
-wide-requires c κs = search needs
+to-usize-requires : tie.Need-to-usize-requires
+to-usize-requires c κs = search needs
 
 add-part : tie.Need-add-part
 add-part c = omega (arith, place-within (c .before .before .before .before .before .before .before .args .index))
@@ -39,7 +39,7 @@ returns c =
     c .part2 .ensures
     ∙ rw (
       c .before .part .ensures,
-      c .before .before .wide .ensures,
+      c .before .before .to-usize .ensures,
       c .before .before .before .byte-at .ensures,
       read .before .size-at .ensures,
       read .before .before .place-at .ensures,
@@ -65,7 +65,7 @@ value-at-spec =
     size-at-requires
     is-text-requires
     byte-at-requires
-    wide-requires
+    to-usize-requires
     add-part
     part-requires
     part-requires-2

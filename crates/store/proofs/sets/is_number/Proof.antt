@@ -26,8 +26,8 @@ enum-told c = search needs
 range-at-requires : tie.Need-range-at-requires
 range-at-requires c κs = search needs
 
-number-of-requires : tie.Need-number-of-requires
-number-of-requires c κs = search needs
+low-first-number-requires : tie.Need-low-first-number-requires
+low-first-number-requires c κs = search needs
 
 in-range-requires : tie.Need-in-range-requires
 in-range-requires c κs = rw (c .before .range-at .ensures) (step-pos (c .before .before .before .before .before .before .before .args .index))
@@ -36,7 +36,7 @@ returns-2 : tie.Need-returns-2
 returns-2 c =
     let sized = c .before .before .before .before .before in
     c .in-range .ensures
-    ∙ rw (c .before .number-of .ensures, c .before .before .range-at .ensures) (simp (eq-eqb _ _ (sized .if1 .left ∙ sized .before .size-at .ensures)))
+    ∙ rw (c .before .low-first-number .ensures, c .before .before .range-at .ensures) (simp (eq-eqb _ _ (sized .if1 .left ∙ sized .before .size-at .ensures)))
 
 byte-at-requires : tie.Need-byte-at-requires
 byte-at-requires c κs = search needs
@@ -65,7 +65,7 @@ is-number-spec =
     quantity-at-requires
     enum-told
     range-at-requires
-    number-of-requires
+    low-first-number-requires
     in-range-requires
     returns-2
     byte-at-requires

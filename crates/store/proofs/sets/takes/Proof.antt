@@ -8,14 +8,14 @@ use Rattle.store.proofs.sets.takes.Tie as tie
 range-at-requires : tie.Need-range-at-requires
 range-at-requires c κs = search needs
 
-wide-requires : tie.Need-wide-requires
-wide-requires c κs = search needs
+to-u16-requires : tie.Need-to-u16-requires
+to-u16-requires c κs = search needs
 
 in-range-requires : tie.Need-in-range-requires
 in-range-requires c κs = rw (c .before .range-at .ensures) (step-pos (c .before .before .args .index))
 
 returns : tie.Need-returns
-returns c = c .in-range .ensures ∙ rw (c .before .wide .ensures, c .before .before .range-at .ensures)
+returns c = c .in-range .ensures ∙ rw (c .before .to-u16 .ensures, c .before .before .range-at .ensures)
 
 pub takes-spec : {M : Type 1} → statement M
-takes-spec = tie.close (tie.spec range-at-requires wide-requires in-range-requires returns)
+takes-spec = tie.close (tie.spec range-at-requires to-u16-requires in-range-requires returns)

@@ -7,8 +7,8 @@ use Rattle.store.proofs.Degrees.{unmarked, tenths-stored}
 use Rattle.store.proofs.temperatures.store_measured.Statement.{statement}
 use Rattle.store.proofs.temperatures.store_measured.Tie as tie
 
-number-of-requires : tie.Need-number-of-requires
-number-of-requires c κs = search needs
+low-first-number-requires : tie.Need-low-first-number-requires
+low-first-number-requires c κs = search needs
 
 reading-of-requires : tie.Need-reading-of-requires
 reading-of-requires c κs = search needs
@@ -30,7 +30,7 @@ store-tenths-requires c κs =
     let slice = number .before in (
       slice .before .pre,
       unmarked (now (slice .before .args .value)) _ (λ i. omega (arith, slice .shared-slice-known .given i))
-          (rw (number .number-of .ensures) at (sym (reading .reading-of .ensures) ∙ temperature .temperature .given .1)),
+          (rw (number .low-first-number .ensures) at (sym (reading .reading-of .ensures) ∙ temperature .temperature .given .1)),
     )
 
 returns-2 : tie.Need-returns-2
@@ -42,13 +42,13 @@ returns-2 c =
     let start = slice .before .args in
     c .store-tenths .ensures
     ∙ tenths-stored (start .store) (start .index) (now (start .value)) _ (λ i. omega (arith, slice .shared-slice-known .given i)) (slice .before .pre)
-    (rw (number .number-of .ensures) at (sym (reading .reading-of .ensures) ∙ temperature .temperature .given .1))
+    (rw (number .low-first-number .ensures) at (sym (reading .reading-of .ensures) ∙ temperature .temperature .given .1))
 
 pub store-measured-spec : {M : Type 1} → statement M
 store-measured-spec =
     tie.close
     (tie.spec
-    number-of-requires
+    low-first-number-requires
     reading-of-requires
     enum-known-temperature
     with-value-at-requires

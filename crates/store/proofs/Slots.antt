@@ -1,4 +1,4 @@
--- Where the rows' rooms lie in the store, and what stands in them.
+-- Where the rows' slots lie in the store, and what stands in them.
 use Prim.Native.Nat.{ℕ, zero, suc, _+_, _-_, _≤_, _<_}
 use native.Mathlib.Nat.{le-of-suc-le-suc, not-suc-le-zero, add-assoc, add-zero}
 use native.Mathlib.Omega.{arith}
@@ -12,7 +12,7 @@ use lib.Seq.{take-all, take-at, take-length, take-nil, drop-at, drop-drop, getD-
 use Rattle.octets.specs.Octets.{overwrite, fits}
 use Rattle.store.specs.declared.Store.{Store}
 use Rattle.store.specs.Rows.{Set, Row, rows, noRow}
-use Rattle.store.specs.Layout.{rowCount, storeSize, longest, sizeOf, isText, widthOf, placesFrom, setAt, placeAt, filled, fromRoom, overwritten, withValueAt}
+use Rattle.store.specs.Layout.{rowCount, storeSize, longest, sizeOf, isText, widthOf, placesFrom, setAt, placeAt, filled, fromSlot, overwritten, withValueAt}
 use Rattle.store.proofs.Tables.{rows-length, places-length, no-row, in-or-past}
 
 -- a part of a list that begins past its end, or reaches to it
@@ -24,7 +24,7 @@ part-rest l from count h =
     take-all (length l - from) (drop from l) (omega (arith, length-drop from l))
     ∙ sym (take-all count (drop from l) (omega (arith, length-drop from l)))
 
--- the rooms of rows, together
+-- the slots of rows, together
 widths : List Row → ℕ
 widths [] = 0
 widths (r ∷ rs) = widthOf (r .set) + widths rs
@@ -33,14 +33,14 @@ widths-rows : widths rows ≡ storeSize
 unfolding widths rows
 widths-rows = refl
 
--- each room begins where those before it end, and ends within the whole
+-- each slot begins where those before it end, and ends within the whole
 places-within : (from : ℕ) (l : List Row) (k : ℕ) → k < length l → getD (placesFrom from l) k 0 + widthOf (getD l k noRow .set) ≤ from + widths l
 unfolding widths placesFrom
 places-within from [] k h = absurd (not-suc-le-zero h)
 places-within from (r ∷ rs) zero h = omega arith
 places-within from (r ∷ rs) (suc k) h = omega (arith, places-within (from + widthOf (r .set)) rs k (le-of-suc-le-suc h))
 
--- past the last row there is no room
+-- past the last row there is no slot
 pub past : (k : ℕ) → rowCount ≤ k → (placeAt k ≡ 0) × (widthOf (setAt k) ≡ 0)
 past k h =
     (List·getD-eq-default (placesFrom 0 rows) 0 (rw places-length h), ap (λ (r : Row). widthOf (r .set)) (sym (no-row k h)))
@@ -59,16 +59,16 @@ size-width s = choose (isText s)
     choose true = omega arith
     choose false = omega arith
 
--- the value in a room, by the place and size
+-- the value in a slot, by the place and size
 tail : (n : ℕ) (l : List ℕ) → drop 1 (take (suc n) l) ≡ take n (drop 1 l)
 tail n [] = sym (take-nil n)
 tail n (x ∷ xs) = refl
 
-pub value-plain : (s : Set) (at : ℕ) (l : List ℕ) → isText s ≡ false → take (sizeOf s) (drop at l) ≡ fromRoom s (take (widthOf s) (drop at l))
+pub value-plain : (s : Set) (at : ℕ) (l : List ℕ) → isText s ≡ false → take (sizeOf s) (drop at l) ≡ fromSlot s (take (widthOf s) (drop at l))
 value-plain s at l e = rw e
 
 pub value-text : (s : Set) (at : ℕ) (l : List ℕ) → isText s ≡ true
-    → take (getD l at 0) (take (sizeOf s) (drop (at + 1) l)) ≡ fromRoom s (take (widthOf s) (drop at l))
+    → take (getD l at 0) (take (sizeOf s) (drop (at + 1) l)) ≡ fromSlot s (take (widthOf s) (drop at l))
 value-text s at l e =
     rw e
     (ap (λ (m : ℕ). take m (take (sizeOf s) (drop (at + 1) l)))
@@ -88,7 +88,7 @@ length-overwrite l at v h =
     ap (λ (t : List ℕ). length (take at l ++ t ++ drop (at + length v) l)) (sym (take-length v))
     ∙ length-paste l at v (length v) h (omega arith)
 
--- bytes put behind others are put with them
+-- bytes put after others are put with them
 pub overwrite-append : (l : List ℕ) (at : ℕ) (x y : List ℕ) → at + length x + length y ≤ length l
     → overwrite (overwrite l at x) (at + length x) y ≡ overwrite l at (x ++ y)
 overwrite-append l at x y h =
@@ -112,7 +112,7 @@ take-replicate zero m x h = refl
 take-replicate (suc n) zero x h = absurd (not-suc-le-zero h)
 take-replicate (suc n) (suc m) x h = ap (λ (l : List ℕ). x ∷ l) (take-replicate n m x (le-of-suc-le-suc h))
 
--- what a value of a room's size leaves of it
+-- what a value of a slot's size leaves of it
 pub kept-length : (size : ℕ) (v : List ℕ) → length (take size v) ≤ size
 kept-length size v = omega (arith, length-take size v)
 
@@ -124,7 +124,7 @@ zeros-left size v h =
     let same : size - length (take size v) ≡ size - length v = omega (arith, length-take size v) in
     ap (λ (n : ℕ). take {A = ℕ} n (replicate longest 0)) same ∙ take-replicate (size - length v) longest 0 (omega arith)
 
--- a value and the zeros behind it
+-- a value and the zeros after it
 pub fill-eq : (s : Store) (at size : ℕ) (v : List ℕ) → length (s .bytes) ≡ storeSize → at + size ≤ storeSize → size ≤ longest
     → overwritten (overwritten s at (take size v)) (at + length (take size v)) (take (size - length (take size v)) (replicate longest 0))
     ≡ overwritten s at (filled size v)
@@ -132,7 +132,7 @@ fill-eq s at size v n h m =
     rw (zeros-left size v m)
     (put-append s at (take size v) (replicate (size - length v) 0) n (omega (arith, length-take size v, length-replicate {A = ℕ} (size - length v) 0)))
 
--- a value in its room: as it is, or a text behind its length
+-- a value in its slot: as it is, or a text after its length
 pub stored-plain : (s : Store) (k : ℕ) (v : List ℕ) → isText (setAt k) ≡ false → overwritten s (placeAt k) (filled (sizeOf (setAt k)) v) ≡ withValueAt s k v
 stored-plain s k v e = rw e
 

@@ -1,9 +1,9 @@
--- `board::records::in_eight` meets its contract.
+-- `board::records::padded_password` meets its contract.
 use denote.Ref.{now}
 use Rattle.board.proofs.Starting.{laid-by}
 use borrow.Author.Needs.{needs}
-use Rattle.board.proofs.records.in_eight.Statement.{statement}
-use Rattle.board.proofs.records.in_eight.Tie as tie
+use Rattle.board.proofs.records.padded_password.Statement.{statement}
+use Rattle.board.proofs.records.padded_password.Tie as tie
 
 slice-aggregate-overwrite : tie.Need-slice-aggregate-overwrite
 slice-aggregate-overwrite c = search needs
@@ -14,5 +14,5 @@ overwrite-requires c κs = search needs
 returns : tie.Need-returns
 returns c = laid-by 8 (now (c .before .before .before .before .args .bytes)) (c .before .before .before .before .pre) (c .before .overwrite .ensures)
 
-pub in-eight-spec : {M : Type 1} → statement M
-in-eight-spec = tie.close (tie.spec slice-aggregate-overwrite overwrite-requires returns)
+pub padded-password-spec : {M : Type 1} → statement M
+padded-password-spec = tie.close (tie.spec slice-aggregate-overwrite overwrite-requires returns)
