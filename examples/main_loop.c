@@ -65,10 +65,10 @@ static void measure_intake_air(udgornwy_board *board)
 {
     uint16_t tenths = (uint16_t)intake_air_temperature();
     uint8_t value[2] = {(uint8_t)(tenths & 0xFF), (uint8_t)(tenths >> 8)};
-    udgornwy_kept kept = udgornwy_measure(*board, 0x001F, value, sizeof value);
-    *board = kept.board;
-    if (kept.refusal != 0)
-        printf("measurement refused: %u\n", kept.refusal);
+    udgornwy_result result = udgornwy_measure(*board, 0x001F, value, sizeof value);
+    *board = result.board;
+    if (result.refusal != 0)
+        printf("measurement refused: %u\n", result.refusal);
 }
 
 static void answer(udgornwy_board *board, const uint8_t *packet, size_t length)
@@ -87,13 +87,13 @@ int main(void)
 {
     static const uint8_t id[] = "002D6E1B34565815";
     static const uint8_t password[] = "1111";
-    udgornwy_kept kept = udgornwy_set_up(id, sizeof id - 1, password, sizeof password - 1, UDGORNWY_CLIENT);
-    if (kept.refusal != 0) {
-        printf("set-up refused: %u\n", kept.refusal);
+    udgornwy_result result = udgornwy_set_up(id, sizeof id - 1, password, sizeof password - 1, UDGORNWY_CLIENT);
+    if (result.refusal != 0) {
+        printf("set-up refused: %u\n", result.refusal);
         return EXIT_FAILURE;
     }
     static udgornwy_board board;
-    board = kept.board;
+    board = result.board;
     uint8_t packet[UDGORNWY_LONGEST_PACKET + 1];
     size_t length;
     while (receive(packet, sizeof packet, &length)) {

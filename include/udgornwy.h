@@ -42,7 +42,7 @@ enum {
     UDGORNWY_ACCESS_POINT = 2
 };
 
-/* A period of the weekly schedule, as parameter 0x0077 has it behind its day and its period. */
+/* A period of the weekly schedule, as parameter 0x0077 has it after its day and its period. */
 typedef struct {
     uint8_t speed;        /* 1 to 5, 0 standby */
     uint8_t temperature;  /* 15 to 30 whole degrees, 0 ventilation only */
@@ -66,7 +66,7 @@ typedef struct {
 typedef struct {
     udgornwy_board board;
     uint16_t refusal; /* 0: not refused */
-} udgornwy_kept;
+} udgornwy_result;
 
 /* What a call that writes a buffer answers. */
 typedef struct {
@@ -77,8 +77,8 @@ typedef struct {
 /* The library lays its structs out so: bytes without gaps, then a number at the next place that its size divides. */
 UDGORNWY_ASSERT(sizeof(udgornwy_entry) == UDGORNWY_ENTRY, "an entry has no gaps");
 UDGORNWY_ASSERT(sizeof(udgornwy_board) == UDGORNWY_BOARD, "a record has no gaps");
-UDGORNWY_ASSERT(offsetof(udgornwy_kept, refusal) == (UDGORNWY_BOARD + 1) / 2 * 2, "the refusal stands at the next even place");
-UDGORNWY_ASSERT(sizeof(udgornwy_kept) == (UDGORNWY_BOARD + 1) / 2 * 2 + 2, "nothing follows the refusal");
+UDGORNWY_ASSERT(offsetof(udgornwy_result, refusal) == (UDGORNWY_BOARD + 1) / 2 * 2, "the refusal stands at the next even place");
+UDGORNWY_ASSERT(sizeof(udgornwy_result) == (UDGORNWY_BOARD + 1) / 2 * 2 + 2, "nothing follows the refusal");
 UDGORNWY_ASSERT(offsetof(udgornwy_reply, length) == sizeof(size_t), "the refusal takes the room of a length");
 UDGORNWY_ASSERT(sizeof(udgornwy_reply) == 2 * sizeof(size_t), "nothing follows the length");
 #undef UDGORNWY_ASSERT
@@ -93,7 +93,7 @@ UDGORNWY_ASSERT(sizeof(udgornwy_reply) == 2 * sizeof(size_t), "nothing follows t
  *   22  the mode is neither 1 (client) nor 2 (access point)
  * The board is then that of a zero ID, an empty password and mode client.
  */
-udgornwy_kept udgornwy_set_up(const uint8_t *id, size_t id_length, const uint8_t *password, size_t password_length, uint8_t mode);
+udgornwy_result udgornwy_set_up(const uint8_t *id, size_t id_length, const uint8_t *password, size_t password_length, uint8_t mode);
 
 /*
  * Takes one UDP payload of any length, makes the changes that its commands call for in the record, and writes the response, if there is
@@ -124,13 +124,13 @@ udgornwy_reply udgornwy_packet(udgornwy_board *board, const uint8_t *packet, siz
  *   30  the number is no read-only row, or is 0x007C or 0x00B9
  *   31  the value has not the row's length
  */
-udgornwy_kept udgornwy_measure(udgornwy_board board, uint16_t number, const uint8_t *value, size_t value_length);
+udgornwy_result udgornwy_measure(udgornwy_board board, uint16_t number, const uint8_t *value, size_t value_length);
 
 /* ---- The tool ---- */
 
 /*
  * Writes the request packet of a list of commands. Command i has function functions[i] (1 read, 2 write, 3 write and report, 4 raise,
- * 5 lower), parameter numbers[i] and a value of lengths[i] bytes; the values stand one behind the other. The three counts are the same.
+ * 5 lower), parameter numbers[i] and a value of lengths[i] bytes; the values stand one after the other. The three counts are the same.
  * A read of the weekly schedule, 0x0077, has a value: a day (1 to 7) and a period (1 to 4).
  * buffer needs 256 bytes. The ID may be DEFAULT_DEVICEID.
  * Refusals:

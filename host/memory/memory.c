@@ -31,9 +31,9 @@ static void call_nothing(void)
 
 static void call_set_up(void)
 {
-    udgornwy_kept kept = udgornwy_set_up(first, first_length, second, second_length, mode);
-    board = kept.board;
-    refusal = kept.refusal;
+    udgornwy_result result = udgornwy_set_up(first, first_length, second, second_length, mode);
+    board = result.board;
+    refusal = result.refusal;
 }
 
 static void call_packet(void)
@@ -43,9 +43,9 @@ static void call_packet(void)
 
 static void call_measure(void)
 {
-    udgornwy_kept kept = udgornwy_measure(board, number, first, first_length);
-    board = kept.board;
-    refusal = kept.refusal;
+    udgornwy_result result = udgornwy_measure(board, number, first, first_length);
+    board = result.board;
+    refusal = result.refusal;
 }
 
 /* ---- The painted stack ---- */

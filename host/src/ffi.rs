@@ -6,6 +6,10 @@ pub const ID_SIZE: usize = 16;
 pub const SHORTEST_PACKET: usize = 24;
 pub const LONGEST_PACKET: usize = 256;
 pub const LONGEST_LISTING: usize = 1753;
+const LONGEST_PASSWORD: usize = 8;
+/// The bytes of the rows, and how many entries the schedule has.
+const STORE: usize = 227;
+const ENTRIES: usize = 28;
 
 /// The ID that stands for every board in a search, and for the board itself in access point mode.
 pub const DEFAULT_ID: [u8; ID_SIZE] = *b"DEFAULT_DEVICEID";
@@ -15,19 +19,20 @@ pub const DEFAULT_ID: [u8; ID_SIZE] = *b"DEFAULT_DEVICEID";
 #[derive(Clone, PartialEq, Eq)]
 pub struct Board {
     id: [u8; ID_SIZE],
-    password: [u8; 8],
+    password: [u8; LONGEST_PASSWORD],
     size: u8,
     mode: u8,
-    store: [u8; 227],
+    store: [u8; STORE],
     /// Days and then periods, four bytes each.
-    schedule: [[u8; 4]; 28],
+    schedule: [[u8; 4]; ENTRIES],
 }
 
-const _: () = assert!(std::mem::size_of::<Board>() == 365);
+const _: () =
+    assert!(std::mem::size_of::<Board>() == ID_SIZE + LONGEST_PASSWORD + 2 + STORE + 4 * ENTRIES);
 
 /// The board to keep, and the number of the refusal, 0 where there is none.
 #[repr(C)]
-struct Kept {
+struct CallResult {
     board: Board,
     refusal: u16,
 }
@@ -83,7 +88,7 @@ extern "C" {
         password: *const u8,
         password_length: usize,
         mode: u8,
-    ) -> Kept;
+    ) -> CallResult;
     fn udgornwy_packet(
         board: *mut Board,
         packet: *const u8,
@@ -91,7 +96,12 @@ extern "C" {
         response: *mut u8,
         response_length: usize,
     ) -> Reply;
-    fn udgornwy_measure(board: Board, number: u16, value: *const u8, value_length: usize) -> Kept;
+    fn udgornwy_measure(
+        board: Board,
+        number: u16,
+        value: *const u8,
+        value_length: usize,
+    ) -> CallResult;
     fn udgornwy_write(
         buffer: *mut u8,
         buffer_length: usize,
@@ -127,7 +137,7 @@ extern "C" {
 /// Sets a board up.
 pub fn set_up(id: &[u8], password: &[u8], mode: u8) -> Result<Board, Refusal> {
     // SAFETY: both slices are live.
-    let kept = unsafe {
+    let result = unsafe {
         udgornwy_set_up(
             id.as_ptr(),
             id.len(),
@@ -136,7 +146,7 @@ pub fn set_up(id: &[u8], password: &[u8], mode: u8) -> Result<Board, Refusal> {
             mode,
         )
     };
-    accepted(kept.refusal).map(|()| kept.board)
+    accepted(result.refusal).map(|()| result.board)
 }
 
 /// Takes a packet of any length.
@@ -162,8 +172,8 @@ pub fn packet(board: &mut Board, packet: &[u8]) -> Answer {
 /// The board with a measured value.
 pub fn measure(board: Board, number: u16, value: &[u8]) -> Result<Board, Refusal> {
     // SAFETY: the slice is live.
-    let kept = unsafe { udgornwy_measure(board, number, value.as_ptr(), value.len()) };
-    accepted(kept.refusal).map(|()| kept.board)
+    let result = unsafe { udgornwy_measure(board, number, value.as_ptr(), value.len()) };
+    accepted(result.refusal).map(|()| result.board)
 }
 
 /// Writes the request of some commands.

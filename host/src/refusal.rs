@@ -27,7 +27,9 @@ impl Refusal {
             31 => "not the row's length",
             40 => "ID has not 16 bytes",
             41 => "not a list of commands",
-            42 => "a parameter's low byte above FB, or a value of no or over 255 bytes",
+            42 => {
+                "a function outside 1 to 5, a low byte above FB, or a value of no or over 255 bytes"
+            }
             43 => "request would exceed 256 bytes",
             70 => "the record is not one that a board can have",
             _ => "unknown number",

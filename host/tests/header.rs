@@ -18,12 +18,12 @@ int main(void)
     static const uint8_t value[] = {UDGORNWY_DAYS, UDGORNWY_PERIODS, 5, 30, 59, 23};
     static const uint16_t numbers[] = {0x0077}, lengths[] = {sizeof value};
     uint8_t packet[UDGORNWY_LONGEST_PACKET], response[UDGORNWY_LONGEST_PACKET];
-    udgornwy_kept kept = udgornwy_set_up(id, sizeof id, password, sizeof password, UDGORNWY_CLIENT);
+    udgornwy_result result = udgornwy_set_up(id, sizeof id, password, sizeof password, UDGORNWY_CLIENT);
     udgornwy_reply request = udgornwy_write(packet, sizeof packet, id, sizeof id, password, sizeof password,
                                             functions, 1, numbers, 1, lengths, 1, value, sizeof value);
-    udgornwy_reply answer = udgornwy_packet(&kept.board, packet, request.length, response, sizeof response);
-    udgornwy_entry last = kept.board.schedule[UDGORNWY_DAYS - 1][UDGORNWY_PERIODS - 1];
-    printf("%d: %u %u %u, %u %u %u %u\n", (int)sizeof(udgornwy_board), kept.refusal, request.refusal, answer.refusal,
+    udgornwy_reply answer = udgornwy_packet(&result.board, packet, request.length, response, sizeof response);
+    udgornwy_entry last = result.board.schedule[UDGORNWY_DAYS - 1][UDGORNWY_PERIODS - 1];
+    printf("%d: %u %u %u, %u %u %u %u\n", (int)sizeof(udgornwy_board), result.refusal, request.refusal, answer.refusal,
            last.speed, last.temperature, last.minute, last.hour);
     return 0;
 }

@@ -15,7 +15,6 @@ use Rattle.framing.specs.Frame.{Frame, packetOf}
 use Rattle.framing.specs.Packet.{writable}
 use Rattle.framing.specs.Refusal.{firstRefusal, checked}
 use Rattle.framing.specs.Packet.{frameOf, packetRefusal, passwordSize}
-use Rattle.framing.specs.declared.Parsed.the-variants as read
 use Rattle.framing.proofs.Checks.{within-sizes}
 use Rattle.framing.proofs.WritesRead.{accepted}
 use Rattle.block.specs.Command.{Command}

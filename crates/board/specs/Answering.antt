@@ -63,9 +63,9 @@ abbrev pub judged : Request → Judged
 judged r = judgedBy (firstRefusal requestChecks r) (scopeOf (isDiscovery r))
 
 -- the number of a refused request
-abbrev pub numberJudged : Judged → ℕ
-numberJudged (No number) = number
-numberJudged (Yes scope) = 0
+abbrev pub judgedNumber : Judged → ℕ
+judgedNumber (No number) = number
+judgedNumber (Yes scope) = 0
 
 abbrev pub answeredAs : Judged → Request → List ℕ → Outcome
 answeredAs (No number) r buffer = refusedWith number r buffer

@@ -12,11 +12,11 @@ ghost use Rattle.framing.specs.Refusal.{checked};
 ghost use Rattle.board.specs.Answering.{scopeOf, inIdentity};
 ghost use Rattle.model.specs.Record.{client, isId, isMode};
 
-// 20: an ID of 16 bytes that is not the default ID.
+// Refusal 20: an ID has 16 bytes and is not the default ID.
 pub(crate) fn check_id(id: &[u8]) -> Check
     ensures { λ r. ⌜ r ≡ checked (not (isId (now (id .entry)))) ⌝ }
 {
-    if id.len() != 16 {
+    if id.len() != framing::ID_SIZE {
         return Check::Failed;
     }
     if framing::is_default_id(id) {
@@ -25,14 +25,14 @@ pub(crate) fn check_id(id: &[u8]) -> Check
     Check::Passed
 }
 
-// 21
+// Refusal 21: a password has at most 8 characters, each a digit or a letter.
 pub(crate) fn check_new_password(password: &[u8]) -> Check
     ensures { λ r. ⌜ r ≡ checked (not (isPassword (now (password .entry)))) ⌝ }
 {
     framing::passed_if(framing::is_password(password))
 }
 
-// 22
+// Refusal 22: the mode is 1 (client) or 2 (access point).
 pub(crate) fn check_mode(mode: u8) -> Check
     ensures { λ r. ⌜ r ≡ checked (not (isMode mode)) ⌝ }
 {
@@ -43,17 +43,17 @@ pub(crate) fn check_mode(mode: u8) -> Check
     }
 }
 
-// 1
+// Refusal 1: the response buffer has room for the longest packet.
 pub(crate) fn check_buffer(length: usize) -> Check
     ensures { λ r. ⌜ r ≡ checked (ltb length 256) ⌝ }
 {
-    if length < 256 {
+    if length < framing::LONGEST_PACKET {
         return Check::Failed;
     }
     Check::Passed
 }
 
-// 7: the ID is the board's own or the default ID.
+// Refusal 7: the ID is the board's own or the default ID.
 pub(crate) fn check_address(own: &[u8], id: &[u8]) -> Check
     ensures { λ r. ⌜ r ≡ checked (not (same (now (id .entry)) (now (own .entry)) || same (now (id .entry)) defaultId)) ⌝ }
 {
@@ -79,7 +79,7 @@ pub(crate) fn scope_of(mode: u8, id: &[u8]) -> Scope
     Scope::All
 }
 
-// 8: a discovery compares no password.
+// Refusal 8: a discovery compares no password.
 pub(crate) fn check_password(scope: Scope, own: &[u8], password: &[u8]) -> Check
     ensures { λ r. ⌜ r ≡ checked (not (inIdentity scope) && not (same (now (password .entry)) (now (own .entry)))) ⌝ }
 {
@@ -89,7 +89,7 @@ pub(crate) fn check_password(scope: Scope, own: &[u8], password: &[u8]) -> Check
     framing::passed_if(octets::equal(password, own))
 }
 
-// 9
+// Refusal 9: FUNC is one of the five functions.
 pub(crate) fn check_function(function: u8) -> Check
     ensures { λ r. ⌜ r ≡ checked (not (isFunction function)) ⌝ }
 {
@@ -99,14 +99,14 @@ pub(crate) fn check_function(function: u8) -> Check
     }
 }
 
-// 10
+// Refusal 10: the data block is well formed from its FUNC on.
 pub(crate) fn check_block(function: u8, bytes: &[u8]) -> Check
     ensures { λ r. ⌜ r ≡ checked (not (wellFormed function (now (bytes .entry)))) ⌝ }
 {
     framing::passed_if(block::request::well_formed(bytes, function))
 }
 
-// 11: a discovery only reads, where its block is well formed.
+// Refusal 11: a discovery only reads, where its block is well formed.
 pub(crate) fn check_reads(scope: Scope, function: u8, bytes: &[u8]) -> Check
     ensures { λ r. ⌜ r ≡ checked (inIdentity scope && not (onlyReads function (now (bytes .entry)))) ⌝ }
 {

@@ -1,4 +1,5 @@
-// The board: set-up, packets and measurements over framing, block and store.
+// The board: the code of set-up, packets and measurements. `model` defines what each of them does; `commands` runs the
+// commands of a block.
 mod checks;
 mod packets;
 mod records;

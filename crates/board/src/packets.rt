@@ -12,7 +12,7 @@ use model::Stepped;
 ghost use Prim.Native.Nat.{_≤_};
 ghost use mathlib.Core.Path.{_≡_};
 ghost use Rattle.framing.specs.Frame.{frame};
-ghost use Rattle.board.specs.Answering.{Leaves, answered, judged, numberJudged, responded};
+ghost use Rattle.board.specs.Answering.{Leaves, answered, judged, judgedNumber, responded};
 ghost use Rattle.model.specs.Record.{setUp, startBoard};
 ghost use Rattle.model.specs.Step.{Steps, call, requestOf};
 
@@ -100,8 +100,8 @@ fn judge(
     Judged::Passed(scope)
 }
 
-fn number_judged(judged: Judged) -> u8
-    ensures { λ r. ⌜ r ≡ numberJudged judged ⌝ }
+fn refusal_number(judged: Judged) -> u8
+    ensures { λ r. ⌜ r ≡ judgedNumber judged ⌝ }
 {
     match judged {
         Judged::Refused(number) => number,
@@ -127,7 +127,7 @@ fn answer(
     let secret = &stored[..size];
     let judged = judge(&own, secret, board.mode, id, password, function, bytes);
     let Judged::Passed(scope) = judged else {
-        return refused(board, number_judged(judged));
+        return refused(board, refusal_number(judged));
     };
     respond(scope, board, id, password, function, bytes, response)
 }
@@ -143,10 +143,10 @@ pub(crate) fn packet(board: Board, packet: &[u8], response: &mut [u8]) -> Steppe
     };
     let parsed = framing::read(packet);
     let Parsed::Frame(places) = parsed else {
-        return refused(board, framing::number_read(parsed));
+        return refused(board, framing::refusal_number(parsed));
     };
     let from = places.id;
-    let until = from + 16;
+    let until = from + framing::ID_SIZE;
     let start = places.password;
     let at = places.function;
     let head = places.block;

@@ -22,26 +22,26 @@ ghost use Rattle.framing.specs.Refusal.{checked};
 ghost use Rattle.model.specs.Measurement.{MeasuresBoard, measureCall};
 ghost use Rattle.model.specs.Record.{SetsUp, micra, parametersOf, setUp, sound, startBoard, unset, withParameters};
 
-fn padded_id(bytes: &[u8]) -> [u8; 16]
+fn padded_id(bytes: &[u8]) -> [u8; framing::ID_SIZE]
     requires { ⌜ length (now bytes) ≡ 16 ⌝ }
     ensures { λ r. ⌜ r ≡ now (bytes .entry) ⌝ }
 {
-    let mut array = [0u8; 16];
+    let mut array = [0u8; framing::ID_SIZE];
     octets::overwrite(&mut array, 0, bytes);
     array
 }
 
-fn padded_password(bytes: &[u8]) -> [u8; 8]
+fn padded_password(bytes: &[u8]) -> [u8; framing::LONGEST_PASSWORD]
     requires { ⌜ length (now bytes) ≤ 8 ⌝ }
     ensures { λ r. ⌜ r ≡ now (bytes .entry) ++ replicate (8 - length (now (bytes .entry))) 0 ⌝ }
 {
-    let mut array = [0u8; 8];
+    let mut array = [0u8; framing::LONGEST_PASSWORD];
     octets::overwrite(&mut array, 0, bytes);
     array
 }
 
 // The rows and the schedule as set-up leaves them.
-fn start_parameters(id: [u8; 16]) -> Parameters
+fn start_parameters(id: [u8; framing::ID_SIZE]) -> Parameters
     ensures { λ r. ⌜ r ≡ parametersOf (startRows id) startEntries ⌝ }
 {
     Parameters {
@@ -70,7 +70,7 @@ fn start(id: &[u8], password: &[u8], mode: u8) -> Board
 fn refused(number: u8) -> Answered
     ensures { λ r. ⌜ (r .board ≡ startBoard unset) × (r .verdict ≡ Verdict.Refused number) ⌝ }
 {
-    let id = [0u8; 16];
+    let id = [0u8; framing::ID_SIZE];
     let board = start(&id, b"", 1);
     Answered {
         board,
@@ -98,22 +98,22 @@ pub(crate) fn set_up(id: &[u8], password: &[u8], mode: u8) -> Answered
 }
 
 // Whether each row is in its set, and 007C and 00B9 are as the identity says.
-fn check_rows(id: [u8; 16], store: Store) -> Check
+fn check_rows(id: [u8; framing::ID_SIZE], store: Store) -> Check
     ensures { λ r. ⌜ r ≡ checked (not (rowsSound store && same (valueOf store 0x007C) id && same (valueOf store 0x00B9) micra)) ⌝ }
 {
     if !store::sound(store) {
         return Check::Failed;
     }
-    if !octets::equal(store::held(&store.bytes, 0x007C), &id) {
+    if !octets::equal(store::held(&store.bytes, store::ID), &id) {
         return Check::Failed;
     }
-    if !octets::equal(store::held(&store.bytes, 0x00B9), b"\x02\x00") {
+    if !octets::equal(store::held(&store.bytes, store::UNIT_TYPE), b"\x02\x00") {
         return Check::Failed;
     }
     Check::Passed
 }
 
-// 70
+// Refusal 70: each call takes only a record that set-up and the calls can make.
 pub(crate) fn check_record(board: Board) -> Check
     ensures { λ r. ⌜ r ≡ checked (not (sound board)) ⌝ }
 {
@@ -122,7 +122,7 @@ pub(crate) fn check_record(board: Board) -> Check
         return Check::Failed;
     };
     let size = octets::to_usize(board.size);
-    if 8 < size {
+    if framing::LONGEST_PASSWORD < size {
         return Check::Failed;
     }
     let password = board.password;
@@ -139,6 +139,7 @@ pub(crate) fn check_record(board: Board) -> Check
     check_rows(id, parameters.store)
 }
 
+// The record with other parameters. Written out: setting the field of a copy takes 352 bytes more of the stack in `measure`.
 pub(crate) fn with_parameters(board: Board, parameters: Parameters) -> Board
     ensures { λ r. ⌜ r ≡ withParameters board parameters ⌝ }
 {

@@ -13,7 +13,7 @@ pub enum Room {
 
 // The first `length` of `bytes` are written, with `page` in force after them.
 pub struct Draft {
-    pub bytes: [u8; 232],
+    pub bytes: [u8; framing::LONGEST_BLOCK],
     pub length: usize,
     pub page: u8,
     pub room: Room,

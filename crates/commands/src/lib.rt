@@ -81,7 +81,7 @@ fn is_selected(scope: Scope, number: u16) -> bool
     match scope {
         Scope::All => true,
         Scope::Identity => match number {
-            0x007C | 0x00B9 => true,
+            store::ID | store::UNIT_TYPE => true,
             _ => false,
         },
     }
@@ -167,7 +167,7 @@ fn stopped(parameters: Parameters) -> RunResult
     ensures { λ r. ⌜ r ≡ runResult parameters (exceeded blank) ⌝ }
 {
     let draft = Draft {
-        bytes: [0u8; 232],
+        bytes: [0u8; framing::LONGEST_BLOCK],
         length: 0,
         page: 0,
         room: Room::Over,
@@ -176,7 +176,11 @@ fn stopped(parameters: Parameters) -> RunResult
 }
 
 // Parameters whose commands are run, with what they report.
-fn finished(parameters: Parameters, bytes: [u8; 232], cursor: Cursor) -> RunResult
+fn finished(
+    parameters: Parameters,
+    bytes: [u8; framing::LONGEST_BLOCK],
+    cursor: Cursor,
+) -> RunResult
     ensures { λ r. ⌜ r ≡ runResult parameters (draftAt bytes cursor) ⌝ }
 {
     let room = cursor.room;
@@ -197,7 +201,7 @@ pub fn run(scope: Scope, parameters: Parameters, function: u8, bytes: &[u8]) -> 
     let mut page: u8 = 0;
     let mut in_force = function;
     let mut held = parameters;
-    let mut draft = [0u8; 232];
+    let mut draft = [0u8; framing::LONGEST_BLOCK];
     let mut cursor = Cursor {
         length: 0,
         page: 0,

@@ -7,7 +7,7 @@ use mathlib.Core.Option.{Option, none, some}
 use mathlib.Core.Path.{_≡_, refl, sym, ap, _∙_}
 use lib.ListN.{length}
 use Rattle.framing.specs.Frame.{Frame, packetOf}
-use Rattle.framing.specs.Packet.{packetRefusal, placesOf, parsedAs, numberRead, writable, Writes}
+use Rattle.framing.specs.Packet.{packetRefusal, placesOf, parsedAs, refusalNumber, writable, Writes}
 use Rattle.framing.specs.declared.Places.{Places}
 use Rattle.framing.specs.declared.Parsed.{Parsed}
 use Rattle.framing.specs.declared.Parsed.the-variants as read
@@ -17,8 +17,8 @@ use Rattle.framing.proofs.Checks.{within-lengths, within-sizes}
 use Rattle.framing.proofs.WritesRead.{accepted}
 
 -- the refusal, or the places
-pub refused-number : (refusal : Option ℕ) (places : Places) {parsed : Parsed} {number : ℕ} → parsed ≡ parsedAs refusal places → parsed ≡ read.Refused number → refusal ≡ some (numberRead parsed)
-refused-number (some n) places e h = ap (λ (p : Parsed). some (numberRead p)) (sym e)
+pub refused-number : (refusal : Option ℕ) (places : Places) {parsed : Parsed} {number : ℕ} → parsed ≡ parsedAs refusal places → parsed ≡ read.Refused number → refusal ≡ some (refusalNumber parsed)
+refused-number (some n) places e h = ap (λ (p : Parsed). some (refusalNumber p)) (sym e)
 refused-number none places e h = cc
 
 pub accepted-places : (refusal : Option ℕ) {given places : Places} {parsed : Parsed} → parsed ≡ parsedAs refusal given → parsed ≡ read.Frame places → (refusal ≡ none) × (places ≡ given)

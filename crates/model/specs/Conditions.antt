@@ -22,7 +22,7 @@ commandsIn f = commands (f .function) (f .block)
 abbrev pub noFunction : Frame → Bool
 noFunction f = not (isFunction (f .function))
 
--- 10
+-- 10: the block is not well formed from its FUNC on
 abbrev pub noCommands : Frame → Bool
 noCommands f = not (wellFormed (f .function) (f .block))
 

@@ -13,8 +13,8 @@ pub struct Parameters {
 // A board's record. The password is the first `size` bytes of `password`; `mode` is the mode in force.
 #[repr(C)]
 pub struct Board {
-    pub id: [u8; 16],
-    pub password: [u8; 8],
+    pub id: [u8; framing::ID_SIZE],
+    pub password: [u8; framing::LONGEST_PASSWORD],
     pub size: u8,
     pub mode: u8,
     pub parameters: Parameters,

@@ -73,65 +73,41 @@ pub(crate) fn show(board: Board, left: &[u8], text: &mut [u8], at: usize) -> usi
 }
 
 fn with_id(board: Board, value: &[u8]) -> Board {
-    let mut id = [0u8; 16];
-    octets::overwrite(&mut id, 0, slices::first(value, 16));
-    let password = board.password;
-    let parameters = board.parameters;
-    Board {
-        id,
-        password,
-        size: board.size,
-        mode: board.mode,
-        parameters,
-    }
+    let mut id = [0u8; framing::ID_SIZE];
+    octets::overwrite(&mut id, 0, slices::first(value, framing::ID_SIZE));
+    let mut next = board;
+    next.id = id;
+    next
 }
 
 fn with_password(board: Board, value: &[u8]) -> Board {
-    let mut password = [0u8; 8];
-    let kept = slices::first(value, 8);
+    let mut password = [0u8; framing::LONGEST_PASSWORD];
+    let kept = slices::first(value, framing::LONGEST_PASSWORD);
     octets::overwrite(&mut password, 0, kept);
-    let id = board.id;
-    let parameters = board.parameters;
-    Board {
-        id,
-        password,
-        size: slices::narrow(kept.len()),
-        mode: board.mode,
-        parameters,
-    }
+    let mut next = board;
+    next.password = password;
+    next.size = slices::narrow(kept.len());
+    next
 }
 
 fn with_mode(board: Board, mode: u8) -> Board {
-    let id = board.id;
-    let password = board.password;
-    let parameters = board.parameters;
-    Board {
-        id,
-        password,
-        size: board.size,
-        mode,
-        parameters,
-    }
+    let mut next = board;
+    next.mode = mode;
+    next
 }
 
 fn with_parameters(board: Board, parameters: Parameters) -> Board {
-    let id = board.id;
-    let password = board.password;
-    Board {
-        id,
-        password,
-        size: board.size,
-        mode: board.mode,
-        parameters,
-    }
+    let mut next = board;
+    next.parameters = parameters;
+    next
 }
 
 // The bytes of a store in which each byte is its own place.
-fn places() -> [u8; 227] {
-    let mut bytes = [0u8; 227];
-    let mut place: u8 = 0;
-    while place < 227 {
-        bytes[octets::to_usize(place)] = place;
+fn places() -> [u8; store::BYTES] {
+    let mut bytes = [0u8; store::BYTES];
+    let mut place: usize = 0;
+    while place < store::BYTES {
+        bytes[place] = slices::narrow(place);
         place += 1;
     }
     bytes
@@ -144,9 +120,9 @@ fn is_text(number: u16) -> bool {
     }
 }
 
-// Writes a value into the room of `size` bytes at `place`, cut or filled up with 0; a text has its length in the byte before.
+// Writes a value into the slot of `size` bytes at `place`, cut or filled up with 0; a text has its length in the byte before.
 fn write_slot(bytes: &mut [u8], place: usize, size: usize, value: &[u8], text: bool) {
-    let zeros = [0u8; 227];
+    let zeros = [0u8; store::BYTES];
     let kept = slices::first(value, size);
     octets::overwrite(bytes, place, slices::first(&zeros, size));
     octets::overwrite(bytes, place, kept);
@@ -161,7 +137,7 @@ fn write_slot(bytes: &mut [u8], place: usize, size: usize, value: &[u8], text: b
 }
 
 // By the contract of `store::held` alone: of a store in which each byte is its own place it hands back the places of a row's value.
-// (A text's length is read there too; both texts lie far enough after for their whole rooms.)
+// (A text's length is read there too; both texts lie far enough after for their whole slots.)
 fn with_row(board: Board, number: u16, value: &[u8]) -> Board {
     let own = places();
     let held = store::held(&own, number);

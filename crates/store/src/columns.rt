@@ -3,6 +3,7 @@ ghost use mathlib.Core.Path.{_≡_};
 ghost use Rattle.store.specs.Rows.{rowAt, indexOf, allows as allowsOf};
 ghost use Rattle.store.specs.Layout.{setAt, placeAt, sizeOf};
 ghost use Rattle.store.specs.Columns.{kindOf, rangeOf};
+use crate::BYTES;
 use crate::Quantity;
 use crate::Range;
 
@@ -19,7 +20,7 @@ pub const FREE: u8 = 3;
 
 pub const CLOCK: u8 = 4;
 
-const NUMBERS: [u16; 72] = [
+const NUMBERS: [u16; ROWS] = [
     1,
     2,
     3,
@@ -94,7 +95,7 @@ const NUMBERS: [u16; 72] = [
     1026,
 ];
 
-const FUNCTIONS: [u8; 72] = [
+const FUNCTIONS: [u8; ROWS] = [
     3,
     5,
     5,
@@ -169,7 +170,7 @@ const FUNCTIONS: [u8; 72] = [
     3,
 ];
 
-const KIND: [u8; 72] = [
+const KIND: [u8; ROWS] = [
     0,
     1,
     1,
@@ -244,7 +245,7 @@ const KIND: [u8; 72] = [
     1,
 ];
 
-const QUANTITY: [Quantity; 72] = [
+const QUANTITY: [Quantity; ROWS] = [
     Quantity::Plain,
     Quantity::Plain,
     Quantity::Plain,
@@ -319,7 +320,7 @@ const QUANTITY: [Quantity; 72] = [
     Quantity::Plain,
 ];
 
-const SIZE: [usize; 72] = [
+const SIZE: [usize; ROWS] = [
     1,
     1,
     1,
@@ -394,7 +395,7 @@ const SIZE: [usize; 72] = [
     1,
 ];
 
-const PLACE: [usize; 72] = [
+const PLACE: [usize; ROWS] = [
     0,
     1,
     2,
@@ -469,7 +470,7 @@ const PLACE: [usize; 72] = [
     226,
 ];
 
-const EXTRA: [u16; 72] = [
+const EXTRA: [u16; ROWS] = [
     0,
     1,
     3,
@@ -544,7 +545,7 @@ const EXTRA: [u16; 72] = [
     0,
 ];
 
-const LOW: [u16; 72] = [
+const LOW: [u16; ROWS] = [
     0,
     1,
     5,
@@ -619,7 +620,7 @@ const LOW: [u16; 72] = [
     0,
 ];
 
-const HIGH: [u16; 72] = [
+const HIGH: [u16; ROWS] = [
     0,
     5,
     5,
@@ -694,7 +695,7 @@ const HIGH: [u16; 72] = [
     1,
 ];
 
-const STEP: [u16; 72] = [
+const STEP: [u16; ROWS] = [
     1,
     1,
     1,
@@ -770,7 +771,7 @@ const STEP: [u16; 72] = [
 ];
 
 // The start store's bytes, with a zero ID.
-pub const START: [u8; 227] = [
+pub const START: [u8; BYTES] = [
     0,
     1,
     3,

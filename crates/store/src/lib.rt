@@ -30,10 +30,21 @@ use sets::low_first_number;
 use sets::neighbour;
 use temperatures::store_value;
 
+// The parameters of the identity: the board's ID and its unit type.
+pub const ID: u16 = 0x007C;
+
+pub const UNIT_TYPE: u16 = 0x00B9;
+
+// The bytes of an ID.
+const ID_SIZE: usize = 16;
+
+// The bytes that the slots of all rows take.
+pub const BYTES: usize = 227;
+
 // A store: each row's value in its slot, the slots one after the other.
 #[repr(C)]
 pub struct Store {
-    pub bytes: [u8; 227],
+    pub bytes: [u8; BYTES],
 }
 
 // Where a number stands in the table of rows.
@@ -178,7 +189,7 @@ pub fn lower(store: Store, number: u16) -> Store
 fn is_identity(number: u16) -> bool
     ensures { λ r. ⌜ r ≡ isIdentity number ⌝ }
 {
-    number == 0x007C || number == 0x00B9
+    number == ID || number == UNIT_TYPE
 }
 
 fn is_measurable(number: u16) -> bool
@@ -235,13 +246,13 @@ pub fn answered_with(function: u8, number: u16) -> Answer
 }
 
 // The store as set-up leaves it, with the board's ID.
-pub fn start(id: [u8; 16]) -> Store
+pub fn start(id: [u8; ID_SIZE]) -> Store
     ensures { λ r. ⌜ r ≡ startOf id ⌝ }
 {
     let blank = Store {
         bytes: columns::START,
     };
-    with_value_at(blank, index_of(0x007C), &id)
+    with_value_at(blank, index_of(ID), &id)
 }
 
 // Whether each row holds a value of its set.

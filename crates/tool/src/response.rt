@@ -41,7 +41,7 @@ fn check_block(block: &[u8]) -> Check
     framing::passed_if(reports::well_formed(block))
 }
 
-// What 9 and 10 say of a packet that passed 2 to 6.
+// Refusals 9 and 10, of a packet that passed 2 to 6.
 fn read_block(packet: &[u8], places: Places) -> Response
     requires { ⌜ Stands (now packet) places ⌝ }
     ensures { λ r. ⌜ r ≡ responseAs (firstRefusal responseRefusals (frameOf (now (packet .entry)))) (placesOf (now (packet .entry))) ⌝ }
@@ -70,10 +70,10 @@ pub fn read(packet: &[u8], id: &[u8], password: &[u8]) -> Response
     };
     let parsed = framing::read(packet);
     let Parsed::Frame(places) = parsed else {
-        return Response::Refused(framing::number_read(parsed));
+        return Response::Refused(framing::refusal_number(parsed));
     };
     let start = places.id;
-    let end = start + 16;
+    let end = start + framing::ID_SIZE;
     let Check::Passed = check_same_id(id, &packet[start..end]) else {
         return Response::Refused(7);
     };
@@ -91,7 +91,7 @@ pub(crate) fn read_any(packet: &[u8]) -> Response
 {
     let parsed = framing::read(packet);
     let Parsed::Frame(places) = parsed else {
-        return Response::Refused(framing::number_read(parsed));
+        return Response::Refused(framing::refusal_number(parsed));
     };
     read_block(packet, places)
 }

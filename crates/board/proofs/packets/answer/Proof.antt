@@ -9,7 +9,7 @@ use Rattle.framing.specs.Frame.{frame}
 use Rattle.model.specs.Record.{setUp, startBoard}
 use Rattle.model.specs.Step.{Request, requestOf}
 use Rattle.model.specs.declared.Answer.the-variants.{Refused}
-use Rattle.board.specs.Answering.{judged, numberJudged}
+use Rattle.board.specs.Answering.{judged, judgedNumber}
 use Rattle.board.proofs.Responding.{answered-by, judged-by-identity, leaves, leaves-as}
 use borrow.Author.Needs.{needs}
 use Rattle.board.proofs.packets.answer.Statement.{statement}
@@ -53,8 +53,8 @@ enum-known-judged c = search needs
 enum-told : tie.Need-enum-told
 enum-told c = search needs
 
-number-judged-requires : tie.Need-number-judged-requires
-number-judged-requires c κs = search needs
+refusal-number-requires : tie.Need-refusal-number-requires
+refusal-number-requires c κs = search needs
 
 refused-requires : tie.Need-refused-requires
 refused-requires c κs = search needs
@@ -63,7 +63,7 @@ returns : tie.Need-returns
 returns c =
     let told = c .before .before .enum-told .given .1 in
     leaves (answered-by (asked (c .before .before .before .before)) _ (sym told ∙ judged-right (c .before .before .before .before))) (c .refused .ensures .0)
-    (c .refused .ensures .1 ∙ ap Refused (c .before .number-judged .ensures ∙ ap numberJudged told)) refl
+    (c .refused .ensures .1 ∙ ap Refused (c .before .refusal-number .ensures ∙ ap judgedNumber told)) refl
 
 respond-requires : tie.Need-respond-requires
 respond-requires c κs = search needs
@@ -87,7 +87,7 @@ answer-spec =
     judge-requires
     enum-known-judged
     enum-told
-    number-judged-requires
+    refusal-number-requires
     refused-requires
     returns
     respond-requires

@@ -82,8 +82,8 @@ enum-known-parsed c = search needs
 enum-told-5 : tie.Need-enum-told-5
 enum-told-5 c = search needs
 
-number-read-requires : tie.Need-number-read-requires
-number-read-requires c κs = search needs
+refusal-number-requires : tie.Need-refusal-number-requires
+refusal-number-requires c κs = search needs
 
 refused-requires-3 : tie.Need-refused-requires-3
 refused-requires-3 c κs = search needs
@@ -94,7 +94,7 @@ returns-3 c =
     let call = asked (c .before .before .before .before .before .before .before .before .before .before) in
     let number = refused-number (packetRefusal (call .packet)) (placesOf (call .packet)) (c .before .before .before .before .read .ensures) (c .before .before .enum-told5 .given .1) in
     steps (step-refused call (step-refusal-by call (record-right (c .before .before .before .before .before .before .before .before)) (buffer-right (c .before .before .before .before .before)) number refl))
-    (leaves refl (c .refused3 .ensures .0) (c .refused3 .ensures .1 ∙ ap Refused (c .before .number-read .ensures)) refl)
+    (leaves refl (c .refused3 .ensures .0) (c .refused3 .ensures .1 ∙ ap Refused (c .before .refusal-number .ensures)) refl)
 
 -- where the parts of a packet that is read stand
 abbrev found : tie.After-parsed → Places
@@ -184,7 +184,7 @@ packet-spec =
     read-requires
     enum-known-parsed
     enum-told-5
-    number-read-requires
+    refusal-number-requires
     refused-requires-3
     returns-3
     add-until

@@ -1,4 +1,4 @@
--- `firmware::controller::udgornwy_packet` meets its contract: a walk of its MIR, by hand. The borrow of the record is opened, the record is copied
+-- `firmware::controller::udgornwy_packet` meets its contract: a proof by hand, step by step through its MIR. The borrow of the record is opened, the record is copied
 -- out and passed to `packet_reply`, of which only its contract is known, and the record that comes back is stored; the borrow is closed there.
 -- `response` goes to `packet_reply` for good (`gave-slice`); of `packet` it has a copy.
 use mathlib.Core.Path.{_≡_, refl, ap}

@@ -3,20 +3,21 @@ use Prim.Native.Nat.{_-_}
 use mathlib.Core.Path.{_≡_}
 use lib.ListN.{length}
 use borrow.Author.Needs.{needs}
+use Rattle.store.specs.Layout.{storeSize}
 use Rattle.replay.proofs.record_calls.places.Statement.{statement}
 use Rattle.replay.proofs.record_calls.places.Tie as tie
 
 abbrev Inv-loop : tie.InvT-loop
-Inv-loop bytes₀ place₀ bytes place = length bytes ≡ 227
+Inv-loop bytes₀ place₀ bytes place = length bytes ≡ storeSize
 
 abbrev μ-loop : tie.MeasureT-loop
-μ-loop bytes₀ place₀ bytes place = 227 - place
+μ-loop bytes₀ place₀ bytes place = storeSize - place
 
 loop-holds : tie.Need-loop-holds Inv-loop μ-loop
 loop-holds c = search needs
 
-to-usize-requires : tie.Need-to-usize-requires Inv-loop μ-loop
-to-usize-requires c κs = search needs
+narrow-requires : tie.Need-narrow-requires Inv-loop μ-loop
+narrow-requires c κs = search needs
 
 array-write-bytes : tie.Need-array-write-bytes Inv-loop μ-loop
 array-write-bytes c = search needs
@@ -40,7 +41,7 @@ places-spec =
     Inv-loop
     μ-loop
     loop-holds
-    to-usize-requires
+    narrow-requires
     array-write-bytes
     add-place
     loop-less
