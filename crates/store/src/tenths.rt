@@ -9,7 +9,7 @@ pub struct Tenths {
 }
 
 // Sixteen bits as a signed number, and back.
-pub fn tenths_of(bits: u16) -> Tenths
+pub(crate) fn tenths_of(bits: u16) -> Tenths
     requires { ⌜ isMark bits ≡ false ⌝ }
     ensures { λ r. ⌜ r ≡ tenthsOf bits ⌝ }
 {
@@ -22,7 +22,7 @@ pub fn tenths_of(bits: u16) -> Tenths
     Tenths { tenths: -1 - below }
 }
 
-pub fn bits_of(temperature: Tenths) -> u16
+pub(crate) fn bits_of(temperature: Tenths) -> u16
     requires { ⌜ isMark (bitsOf (temperature .tenths)) ≡ false ⌝ }
     ensures { λ r. ⌜ r ≡ bitsOf (temperature .tenths) ⌝ }
 {
