@@ -14,8 +14,8 @@ use Rattle.octets.specs.Octets.{overwrite, fits}
 use Rattle.octets.proofs.Booleans.{both-true}
 use Rattle.framing.specs.Frame.{Frame, frame, packetOf, packetLength}
 use Rattle.framing.specs.Packet.{writable}
-use Rattle.framing.specs.Refusal.{Refusal, refusal, firstRefusal}
-use Rattle.framing.proofs.Refusals.{not-refused}
+use Rattle.framing.specs.Refusal.{refusal, firstRefusal}
+use Rattle.framing.proofs.Refusals.{not-refused, first-of-joined}
 use Rattle.framing.proofs.Writing.{length-packet}
 use Rattle.block.specs.Command.{Command, commandNumber, isRead, Report, held, unknown, reportPage}
 use Rattle.block.specs.Encoding.{change, reportBody, encodeReport, encodeReports, encodableReport, every}
@@ -164,23 +164,6 @@ taken-blank reports encodable = λ i. encodable i && leb (zero-add (length (enco
 written-block : (bytes : List ℕ) → take (0 + length bytes) (overwrite (replicate 232 0) 0 bytes) ≡ bytes
 written-block bytes = take-at bytes (drop (0 + length bytes) (replicate 232 0)) (0 + length bytes) (sym (zero-add (length bytes)))
 
--- refusals after others come after them
-either :
-    (applies : Bool) (number : ℕ) (rest remaining : Option ℕ)
-    → cond applies (some number) (orElse rest remaining) ≡ orElse (cond applies (some number) rest) remaining
-unfolding orElse
-either true number rest remaining = refl
-either false number rest remaining = refl
-
-join :
-    {Call : Type 0} (rows remaining : List (Refusal Call)) (call : Call)
-    → firstRefusal (rows ++ remaining) call ≡ orElse (firstRefusal rows call) (firstRefusal remaining call)
-unfolding firstRefusal orElse
-join [] remaining call = refl
-join (row ∷ rows) remaining call =
-    ap (cond (row .applies call) (some (row .number))) (join rows remaining call)
-    ∙ either (row .applies call) (row .number) (firstRefusal rows call) (firstRefusal remaining call)
-
 some-commands : (o : Option (List Command)) → not (isSome o) ≡ false → (cs : List Command) × (o ≡ some cs)
 some-commands none h = let impossible : _≡_ {A = ℕ} 0 1 = cc in absurd (omega arith)
 some-commands (some cs) h = (cs, refl)
@@ -304,4 +287,4 @@ pub answered-outcome :
 unfolding requestRefusals firstRefusal
 answered-outcome r buffer legal short room =
     by-checks r buffer legal short room (sound-parts (r .board) legal .sized) (firstRefusal requestChecks r) refl
-    ∙ ap (λ (refusal : Option ℕ). outcomeBy refusal r buffer) (sym (join requestChecks (refusal 12 longResponse ∷ []) r))
+    ∙ ap (λ (refusal : Option ℕ). outcomeBy refusal r buffer) (sym (first-of-joined r requestChecks (refusal 12 longResponse ∷ [])))

@@ -15,6 +15,7 @@ use Rattle.schedule.specs.declared.Schedule.{Schedule}
 use Rattle.model.specs.Commands.{isSchedule, afterRow, afterEntry, afterCommand, rowReport, entryReport, reported}
 use Rattle.model.specs.Record.{parametersOf}
 use Rattle.model.specs.declared.Parameters.{Parameters}
+use Rattle.model.proofs.Changed.{entry-reported}
 use Rattle.commands.specs.declared.Scope.{Scope}
 use Rattle.commands.specs.declared.draft.Draft.{Draft}
 use Rattle.commands.specs.Draft.{drafted, reportedIn, selected}
@@ -50,10 +51,6 @@ module _ (p : Parameters) (c : Command) {number : ℕ} (named : number ≡ comma
   unfolding afterCommand
   after-row other = rw (ne-eqb _ _ (λ e. other (named ∙ e)))
 
-reported-entry : (p : Parameters) (c : Command) → isSchedule c ≡ true → reported p c ≡ entryReport (answered (c .function) (c .value)) (p .schedule) c
-unfolding reported
-reported-entry p c h = rw h
-
 reported-row :
     (p : Parameters) (c : Command) → isSchedule c ≡ false → reported p c ≡ rowReport (answer (c .function) (commandNumber c)) (p .store) c
 unfolding reported
@@ -69,7 +66,7 @@ module _ (scope : Scope) (p : Parameters) (draft : Draft) (c : Command) {number 
   pub report-of-entry :
       chosen ≡ true → number ≡ scheduleNumber
       → drafted draft (entryReport (answered (c .function) (c .value)) (p .schedule) c) ≡ drafted draft (reportedIn scope p c)
-  report-of-entry h e = ap (drafted draft) (sym (reported-entry p c (eq-eqb _ _ (sym named ∙ e)))) ∙ reported-by h
+  report-of-entry h e = ap (drafted draft) (sym (entry-reported p c (eq-eqb _ _ (sym named ∙ e)))) ∙ reported-by h
 
   pub report-of-row :
       chosen ≡ true → (number ≡ scheduleNumber → ⊥)

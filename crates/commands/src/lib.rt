@@ -131,7 +131,7 @@ fn report_entry(
     }
 }
 
-// What a command reports of the parameters just after it, after what is written.
+// What a command reports of the parameters just after it, added to what is written.
 fn report(
     scope: Scope,
     parameters: Parameters,

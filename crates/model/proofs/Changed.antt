@@ -17,6 +17,7 @@ use Rattle.framing.specs.Refusal.{firstRefusal}
 use Rattle.framing.proofs.Refusals.{not-refused}
 use Rattle.block.specs.Command.{Command, commandNumber, Report, held, unknown}
 use Rattle.block.specs.Encoding.{every}
+use Rattle.block.proofs.Parts.{cond-same}
 use Rattle.store.specs.Laws.{Operation, Write, Raise, Lower, Measure, newValue, after}
 use Rattle.store.specs.Layout.{slotOf, valueOf, sizeOf}
 use Rattle.store.specs.Operations.{measurable, affected, stored as storedIn}
@@ -74,14 +75,10 @@ entries-written : (p : Parameters) (c : Command) → isSchedule c ≡ true → i
 unfolding afterCommand
 entries-written p c named writes = rw (named, writes)
 
-either-way : {A : Type 0} (b : Bool) (x : A) → cond b x x ≡ x
-either-way true x = refl
-either-way false x = refl
-
 -- a read leaves the parameters as they were
 pub read-keeps : (p : Parameters) (c : Command) → c .function ≡ 1 → afterCommand p c ≡ p
 unfolding afterCommand
-read-keeps p c e = rw e (either-way (isSchedule c) p)
+read-keeps p c e = rw e (cond-same (isSchedule c) p)
 
 run-join : (before remaining : List Command) (p : Parameters) → run p (before ++ remaining) ≡ run (run p before) remaining
 unfolding run
@@ -418,7 +415,7 @@ no-reports : (c : Call) → Asks c [] → reportsOf (request c) ≡ []
 unfolding runReports discoverReports
 no-reports c e =
     ap (λ (cs : List Command). cond (isDiscovery (request c)) (discoverReports (c .board .id) cs) (runReports (c .board .parameters) cs)) (asked c [] e)
-    ∙ either-way (isDiscovery (request c)) []
+    ∙ cond-same (isDiscovery (request c)) []
 
 -- what holds of the record and, if it is sound, of it with the parameters that the commands leave
 on-sound :

@@ -137,7 +137,7 @@ fn write_slot(bytes: &mut [u8], place: usize, size: usize, value: &[u8], text: b
 }
 
 // By the contract of `store::held` alone: of a store in which each byte is its own place it hands back the places of a row's value.
-// (A text's length is read there too; both texts lie far enough after for their whole slots.)
+// (A text's length is read there too; both texts lie far enough from the start for their whole slots.)
 fn with_row(board: Board, number: u16, value: &[u8]) -> Board {
     let own = places();
     let held = store::held(&own, number);

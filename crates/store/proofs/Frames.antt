@@ -13,7 +13,8 @@ use Rattle.store.specs.declared.Store.{Store}
 use Rattle.store.specs.Rows.{Set, Row, rows, noRow, rowAt, indexOf}
 use Rattle.store.specs.Layout.{rowCount, storeSize, sizeOf, isText, widthOf, placesFrom, setAt, placeAt, filled, toSlot, slotAt, slotOf, withValueAt, withValue}
 use Rattle.store.proofs.Tables.{rows-length, in-or-past, found-number}
-use Rattle.store.proofs.Slots.{past, place-within, length-filled, length-overwrite}
+use Rattle.octets.proofs.Overwriting.{length-overwrite}
+use Rattle.store.proofs.Slots.{past, place-within, length-filled}
 
 -- a slot is as wide as its row
 pub slot-width : (set : Set) (v : List ℕ) → length (toSlot set v) ≡ widthOf set

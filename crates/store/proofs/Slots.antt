@@ -8,7 +8,7 @@ use mathlib.Core.Logic.{⊎-elim}
 use mathlib.Core.Path.{_≡_, refl, sym, ap, _∙_}
 use borrow.Author.Tests.{le-leb}
 use lib.ListN.{length, getD, take, drop, replicate, length-append, length-take, length-drop, length-replicate, drop-of-length-le, List·getD-eq-default}
-use lib.Seq.{take-all, take-at, take-length, take-nil, drop-at, drop-drop, getD-take, getD-drop, length-paste, length-take-le}
+use lib.Seq.{take-all, take-at, take-nil, drop-at, drop-drop, getD-take, getD-drop, length-take-le}
 use Rattle.octets.specs.Octets.{overwrite, fits}
 use Rattle.store.specs.declared.Store.{Store}
 use Rattle.store.specs.Rows.{Set, Row, rows, noRow}
@@ -82,11 +82,6 @@ pub put-eq : (s : Store) (at : ℕ) (v after : List ℕ) → length (s .bytes) �
 put-eq s at v after n h e =
     let within : at + length v ≤ length (s .bytes) = omega arith in
     ap {B = Store} (λ (l : List ℕ). record { bytes = l }) (e ∙ simp (le-leb _ _ within))
-
-pub length-overwrite : (l : List ℕ) (at : ℕ) (v : List ℕ) → at + length v ≤ length l → length (overwrite l at v) ≡ length l
-length-overwrite l at v h =
-    ap (λ (t : List ℕ). length (take at l ++ t ++ drop (at + length v) l)) (sym (take-length v))
-    ∙ length-paste l at v (length v) h (omega arith)
 
 -- bytes put after others are put with them
 pub overwrite-append : (l : List ℕ) (at : ℕ) (x y : List ℕ) → at + length x + length y ≤ length l
