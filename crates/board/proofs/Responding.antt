@@ -6,7 +6,7 @@ use mathlib.Core.List.{List, _++_}
 use mathlib.Core.Option.{Option, none, some}
 use mathlib.Core.Path.{_≡_, refl, sym, ap, _∙_}
 use borrow.Author.Tests.{eq-eqb, ne-eqb, leb-true, not-false}
-use lib.ListN.{length, drop, replicate, take, length-take}
+use lib.ListN.{length, replicate, take}
 use lib.Seq.{take-at}
 use Rattle.octets.proofs.Booleans.{both-true}
 use Rattle.octets.proofs.Overwriting.{length-overwrite}
@@ -14,9 +14,6 @@ use Rattle.octets.specs.Octets.{overwrite, same}
 use Rattle.framing.specs.Frame.{Frame, packetOf}
 use Rattle.framing.specs.Packet.{writable}
 use Rattle.framing.specs.Refusal.{firstRefusal, checked}
-use Rattle.framing.specs.Packet.{frameOf, packetRefusal, passwordSize}
-use Rattle.framing.proofs.Checks.{within-sizes}
-use Rattle.framing.proofs.WritesRead.{accepted}
 use Rattle.block.specs.Command.{Command}
 use Rattle.block.specs.Encoding.{encodableReport, encodeReports, every}
 use Rattle.block.specs.Request.{commands, onlyReads}
@@ -121,11 +118,6 @@ module _ (r : Request) {scope : Scope} (told : scope ≡ scopeOf (isDiscovery r)
       → check ≡ checked (discoveryWrites r)
   reads-told formed e =
       e ∙ (λ i. checked (is-discovery i && sym (other-named (r .frame .function) (r .frame .block) .formed (not-false _ formed)) i))
-
-pub password-short : (packet : List ℕ) → packetRefusal packet ≡ none → length (frameOf packet .password) ≤ 8
-password-short packet right =
-    let sizes = within-sizes packet (accepted packet right .size-right) in
-    omega (arith, length-take (21 + passwordSize packet - 21) (drop 21 packet))
 
 -- a contract of a packet, by its outcome
 pub steps : {c : Call} {result : Stepped} {after : List ℕ} {outcome : Outcome} → step c ≡ outcome → Leaves outcome result after → Steps c result after

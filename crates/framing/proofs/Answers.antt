@@ -1,13 +1,14 @@
 -- What the answers of `read` and `write` tell of a packet and its parts.
-use Prim.Native.Nat.{ℕ, _+_, _<_, _≤_}
+use Prim.Native.Nat.{ℕ, _+_, _-_}
 use native.Mathlib.Omega.{arith}
 use mathlib.Core.Bool.{Bool, true, false, cond}
 use mathlib.Core.List.{List}
 use mathlib.Core.Option.{Option, none, some}
 use mathlib.Core.Path.{_≡_, refl, sym, ap, _∙_}
-use lib.ListN.{length}
+use lib.ListN.{length, take, drop, getD}
 use Rattle.framing.specs.Frame.{Frame, packetOf}
-use Rattle.framing.specs.Packet.{packetRefusal, placesOf, parsedAs, refusalNumber, writable, Writes}
+use Rattle.framing.specs.Packet.{packetRefusal, placesOf, frameOf, parsedAs, refusalNumber, writable, Writes}
+use Rattle.framing.specs.Statements.{Within, Stands, ReadConcludes}
 use Rattle.framing.specs.declared.Places.{Places}
 use Rattle.framing.specs.declared.Parsed.{Parsed}
 use Rattle.framing.specs.declared.Parsed.the-variants as read
@@ -17,28 +18,43 @@ use Rattle.framing.proofs.Checks.{within-lengths, within-sizes}
 use Rattle.framing.proofs.WritesRead.{accepted}
 
 -- the refusal, or the places
-pub refused-number : (refusal : Option ℕ) (places : Places) {parsed : Parsed} {number : ℕ} → parsed ≡ parsedAs refusal places → parsed ≡ read.Refused number → refusal ≡ some (refusalNumber parsed)
-refused-number (some n) places e h = ap (λ (p : Parsed). some (refusalNumber p)) (sym e)
-refused-number none places e h = cc
+refused-as : (refusal : Option ℕ) (places : Places) {parsed : Parsed} {number : ℕ} → parsed ≡ parsedAs refusal places → parsed ≡ read.Refused number → refusal ≡ some (refusalNumber parsed)
+refused-as (some n) places e h = ap (λ (p : Parsed). some (refusalNumber p)) (sym e)
+refused-as none places e h = cc
 
-pub accepted-places : (refusal : Option ℕ) {given places : Places} {parsed : Parsed} → parsed ≡ parsedAs refusal given → parsed ≡ read.Frame places → (refusal ≡ none) × (places ≡ given)
-accepted-places (some n) e h = ((cc), (cc))
-accepted-places none e h = (refl, cc)
+accepted-as : (refusal : Option ℕ) {given places : Places} {parsed : Parsed} → parsed ≡ parsedAs refusal given → parsed ≡ read.Frame places → (refusal ≡ none) × (places ≡ given)
+accepted-as (some n) e h = ((cc), (cc))
+accepted-as none e h = (refl, cc)
 
 -- a packet that is read keeps its parts within its bytes
-pub record Within (packet : List ℕ) (places : Places) : Type 0 where
-  pub id : places .id + 16 ≤ length packet
-  pub password : places .password ≤ places .function
-  pub function : places .function < length packet
-  pub block : places .block ≤ places .end
-  pub end : places .end ≤ length packet
-
-pub within : (packet : List ℕ) {places : Places} → packetRefusal packet ≡ none → places ≡ placesOf packet → Within packet places
-within packet right e =
+pub stands : (packet : List ℕ) → packetRefusal packet ≡ none → {places : Places} → places ≡ placesOf packet → Stands packet places
+stands packet right e =
     let known = accepted packet right in
     let lengths = within-lengths packet (known .length-right) in
     let sizes = within-sizes packet (known .size-right) in
-    rw e (record { id = omega arith; password = omega arith; function = omega arith; block = omega arith; end = omega arith })
+    let inside : Within packet (placesOf packet) = record { id = omega arith; password = omega arith; function = omega arith; block = omega arith; end = omega arith } in
+    record { accepted = right; placed = e; within = rw e inside }
+
+pub read-concludes : ReadConcludes
+read-concludes packet answer e =
+    record {
+      refused = λ h. refused-as (packetRefusal packet) (placesOf packet) e h;
+      read = λ h. let told = accepted-as (packetRefusal packet) e h in stands packet (told .0) (told .1);
+    }
+
+-- what stands at the places, as board and tool cut it out of the packet
+module _ {packet : List ℕ} {places : Places} (s : Stands packet places) where
+  pub id-found : take (places .id + 16 - places .id) (drop (places .id) packet) ≡ frameOf packet .id
+  id-found = rw (s .placed)
+
+  pub password-found : take (places .function - places .password) (drop (places .password) packet) ≡ frameOf packet .password
+  password-found = rw (s .placed)
+
+  pub function-found : getD packet (places .function) 0 ≡ frameOf packet .function
+  function-found = rw (s .placed)
+
+  pub block-found : take (places .end - places .block) (drop (places .block) packet) ≡ frameOf packet .block
+  block-found = rw (s .placed)
 
 -- whether the parts made a packet that fits, and its length
 written-by : (yes : Bool) {answer : Written} {size length : ℕ} → answer ≡ cond yes (Length size) NoPacket → answer ≡ Length length → (yes ≡ true) × (length ≡ size)

@@ -2,13 +2,13 @@
 use Prim.Native.Nat.{ℕ}
 use native.Mathlib.Omega.{arith}
 use mathlib.Core.Bool.{Bool, true, false, cond, not}
-use mathlib.Core.List.{List, [], _∷_, map}
+use mathlib.Core.List.{List, [], _∷_}
 use mathlib.Core.Option.{Option, none, some, orElse}
 use mathlib.Core.Path.{_≡_, refl, sym, ap, _∙_}
 use lib.ListN.{drop}
 use Rattle.framing.specs.Packet.{packetRefusals, packetRefusal}
-use Rattle.framing.specs.Refusal.{refusalOf, firstRefusal}
-use Rattle.framing.proofs.Refusals.{not-refused, first-of-part, part-then, both-none}
+use Rattle.framing.specs.Refusal.{firstRefusal}
+use Rattle.framing.proofs.Refusals.{not-refused, parts-then, both-none}
 use Rattle.block.specs.Command.{Report}
 use Rattle.block.specs.Reading.{isSome}
 use Rattle.model.specs.Commands.{run}
@@ -25,9 +25,7 @@ no-refusal (some number) h = let impossible : _≡_ {A = ℕ} 0 1 = cc in absurd
 -- those of the packet's bytes, then those of its frame
 after-one : (c : Call) → firstRefusal (drop 2 stepRefusals) c ≡ orElse (packetRefusal (c .packet)) (firstRefusal requestRefusals (request c))
 unfolding stepRefusals packetRefusal
-after-one c =
-    part-then c (λ (whole : Call). whole .packet) packetRefusals (map (refusalOf request) requestRefusals)
-    ∙ ap (orElse (firstRefusal packetRefusals (c .packet))) (first-of-part c request requestRefusals)
+after-one c = parts-then c (λ (whole : Call). whole .packet) packetRefusals request requestRefusals
 
 pub step-refusal :
     (c : Call)

@@ -5,7 +5,8 @@ use framing::Places;
 ghost use mathlib.Core.Path.{_≡_};
 ghost use Rattle.framing.specs.Refusal.{firstRefusal, checked};
 ghost use Rattle.framing.specs.Packet.{placesOf, frameOf};
-ghost use Rattle.tool.specs.Response.{readCall, responseOf, responseAs, responseRefusals, anyResponseOf, otherId, otherPassword, noResponse, malformedBlock, Stands};
+ghost use Rattle.framing.specs.Statements.{Stands};
+ghost use Rattle.tool.specs.Response.{readCall, responseOf, responseAs, responseRefusals, anyResponseOf, otherId, otherPassword, noResponse, malformedBlock};
 
 pub enum Response {
     // The data block stands from `block` to `end`; its reports are what `reports::next_report` hands out, from page 0 on.

@@ -3,14 +3,15 @@ use Prim.Native.Nat.{ℕ, _+_, _-_}
 use native.Mathlib.Omega.{arith}
 use mathlib.Core.Bool.{false}
 use mathlib.Core.List.{List}
-use mathlib.Core.Option.{Option, none, orElse}
+use mathlib.Core.Option.{Option, orElse}
 use mathlib.Core.Path.{_≡_, refl, sym, ap, _∙_}
 use borrow.Author.Needs.{needs}
 use borrow.Author.Tests.{leb-true, ltb-false, not-false}
 use denote.Ref.{now}
 use lib.ListN.{take, drop, getD}
 use Rattle.framing.specs.Frame.{frame}
-use Rattle.framing.specs.Packet.{frameAt, packetRefusal, placesOf}
+use Rattle.framing.specs.Packet.{frameOf}
+use Rattle.framing.specs.Statements.{Within, Stands}
 use Rattle.framing.specs.declared.Places.{Places}
 use Rattle.model.specs.Step.{Call, Request, call, outcomeBy, request, requestOf, smallBuffer, step, unsound}
 use Rattle.model.specs.declared.Board.{Board}
@@ -19,8 +20,9 @@ use Rattle.model.proofs.Soundness.{sound-parts}
 use Rattle.model.proofs.StepRefusals.{step-refusal-by, step-refused}
 use Rattle.board.specs.Answering.{answered}
 use Rattle.framing.proofs.Refusals.{passed, failed}
-use Rattle.framing.proofs.Answers.{Within, refused-number, accepted-places, within}
-use Rattle.board.proofs.Responding.{leaves, steps, password-short}
+use Rattle.framing.proofs.Answers.{read-concludes, id-found, password-found, function-found, block-found}
+use Rattle.framing.proofs.WritesRead.{frame-sizes}
+use Rattle.board.proofs.Responding.{leaves, steps}
 use Rattle.board.proofs.Responses.{answered-outcome}
 use Rattle.board.proofs.packets.packet.Statement.{statement}
 use Rattle.board.proofs.packets.packet.Tie as tie
@@ -92,19 +94,19 @@ returns-3 : tie.Need-returns-3
 unfolding orElse
 returns-3 c =
     let call = asked (c .before .before .before .before .before .before .before .before .before .before) in
-    let number = refused-number (packetRefusal (call .packet)) (placesOf (call .packet)) (c .before .before .before .before .read .ensures) (c .before .before .enum-told5 .given .1) in
+    let number = read-concludes (call .packet) _ (c .before .before .before .before .read .ensures) .refused (c .before .before .enum-told5 .given .1) in
     steps (step-refused call (step-refusal-by call (record-right (c .before .before .before .before .before .before .before .before)) (buffer-right (c .before .before .before .before .before)) number refl))
     (leaves refl (c .refused3 .ensures .0) (c .refused3 .ensures .1 ∙ ap Refused (c .before .refusal-number .ensures)) refl)
 
--- where the parts of a packet that is read stand
-abbrev found : tie.After-parsed → Places
-found c = c .parsed .given .0 .0
+-- the packet that is read, and where its parts stand
+abbrev call-read : tie.After-parsed → Call
+call-read c = asked (c .before .before .before .before .before .before .before .before)
 
-read-right : (c : tie.After-parsed) → (packetRefusal (asked (c .before .before .before .before .before .before .before .before) .packet) ≡ none) × (found c ≡ placesOf (asked (c .before .before .before .before .before .before .before .before) .packet))
-read-right c = accepted-places (packetRefusal (asked (c .before .before .before .before .before .before .before .before) .packet)) (c .before .before .read .ensures) (c .parsed .given .1)
+stood : (c : tie.After-parsed) → Stands (call-read c .packet) (c .parsed .given .0 .0)
+stood c = read-concludes (call-read c .packet) _ (c .before .before .read .ensures) .read (c .parsed .given .1)
 
-inside : (c : tie.After-parsed) → Within (asked (c .before .before .before .before .before .before .before .before) .packet) (found c)
-inside c = within (asked (c .before .before .before .before .before .before .before .before) .packet) (read-right c .0) (read-right c .1)
+inside : (c : tie.After-parsed) → Within (call-read c .packet) (c .parsed .given .0 .0)
+inside c = stood c .within
 
 add-until : tie.Need-add-until
 add-until c = omega (arith, inside (c .before) .id)
@@ -147,24 +149,23 @@ same-length c = search needs
 
 -- the request as the code cuts it out of the packet
 same-request :
-    (board : Board) (packet : List ℕ) {places given : Places} → places ≡ given
+    (board : Board) {packet : List ℕ} {places : Places} → Stands packet places
     → requestOf board (frame (take (places .id + 16 - places .id) (drop (places .id) packet)) (take (places .function - places .password) (drop (places .password) packet)) (getD packet (places .function) 0) (take (places .end - places .block) (drop (places .block) packet)))
-    ≡ requestOf board (frameAt packet given)
-same-request board packet {places} e =
-    let sixteen : places .id + 16 - places .id ≡ 16 = omega arith in
-    rw sixteen (ap (λ (at : Places). requestOf board (frameAt packet at)) e)
+    ≡ requestOf board (frameOf packet)
+same-request board s = λ i. requestOf board (frame (id-found s i) (password-found s i) (function-found s i) (block-found s i))
 
 returns-4 : tie.Need-returns-4
 unfolding orElse step
 returns-4 c =
     let k = c .before .before .before .before .before .before .before .before .before in
-    let call = asked (k .before .before .before .before .before .before .before .before) in
+    let call = call-read k in
+    let right = stood k .accepted in
     let legal = record-right (k .before .before .before .before .before .before) in
     let room = buffer-right (k .before .before .before) in
     steps
-    (ap (λ (refusal : Option ℕ). outcomeBy refusal (request call) (call .buffer)) (step-refusal-by call legal room (read-right k .0) refl)
-    ∙ sym (answered-outcome (request call) (call .buffer) (not-false _ legal) (password-short (call .packet) (read-right k .0)) (ltb-false _ _ room))
-    ∙ ap (λ (r : Request). answered r (call .buffer)) (sym (same-request (call .board) (call .packet) (read-right k .1))))
+    (ap (λ (refusal : Option ℕ). outcomeBy refusal (request call) (call .buffer)) (step-refusal-by call legal room right refl)
+    ∙ sym (answered-outcome (request call) (call .buffer) (not-false _ legal) (frame-sizes (call .packet) right .password-size) (ltb-false _ _ room))
+    ∙ ap (λ (r : Request). answered r (call .buffer)) (sym (same-request (call .board) (stood k))))
     (c .before .before .answer .ensures)
 
 pub packet-spec : {M : Type 1} → statement M
