@@ -1,8 +1,8 @@
 -- The agreement for the exported calls, from that for the functions after them.
-use Prim.Native.Nat.{ℕ, _+_, _≤_, _<_}
+use Prim.Native.Nat.{ℕ, _+_, _≤_}
 use native.Mathlib.Omega.{arith}
-use mathlib.Core.Bool.{Bool, true, false, cond}
-use mathlib.Core.List.{List, [], _∷_, _++_}
+use mathlib.Core.Bool.{Bool, true, cond}
+use mathlib.Core.List.{List, _++_}
 use mathlib.Core.Option.{Option, none, some}
 use mathlib.Core.Path.{_≡_, refl, sym, ap, subst, _∙_}
 use borrow.Author.Tests.{le-leb, ltb-true}
@@ -10,8 +10,6 @@ use lib.Dec.{ltb}
 use lib.ListN.{length, take, drop}
 use lib.Seq.{take-at, drop-at}
 use Rattle.octets.specs.Octets.{overwrite, fits}
-use Rattle.octets.proofs.Booleans.{both-true}
-use Rattle.framing.specs.Refusal.{Refusal, firstRefusal}
 use Rattle.block.specs.Encoding.{every}
 use Rattle.model.specs.Step.{Request}
 use Rattle.model.specs.declared.Answer.{Answer}
@@ -30,20 +28,9 @@ use Rattle.firmware.proofs.Exported.{exports-follow}
 use Rattle.claims.specs.Agreement.{ResponseRead}
 use Rattle.claims.specs.ExportedAgreement.{ExportedRequestsAgree, Shown, ResponseTold, ExportedResponsesAgree, ExportedExchangesAgree}
 use Rattle.claims.proofs.Exchanges.{exchanges-agree}
+use Rattle.claims.proofs.Numbers.{number-passes}
 use Rattle.claims.proofs.RequestsRead.{requests-agree}
 use Rattle.claims.proofs.ResponsesRead.{responses-agree}
-
--- a list of refusals without the number 0 does not give it
-positive : {A : Type 0} (rows : List (Refusal A)) (asked : A) → every (λ (row : Refusal A). ltb 0 (row .number)) rows ≡ true → firstRefusal rows asked ≡ some 0 → ⊥
-unfolding every firstRefusal
-positive [] asked h e = let impossible : _≡_ {A = ℕ} 0 1 = cc in omega arith
-positive {A} (row ∷ rows) asked h e =
-    let both = both-true (ltb 0 (row .number)) (every (λ (r : Refusal A). ltb 0 (r .number)) rows) h in
-    by-row (row .applies asked) (ltb-true 0 (row .number) (both .0)) (positive rows asked (both .1)) e
-  where
-    by-row : (applies : Bool) → 0 < row .number → (firstRefusal rows asked ≡ some 0 → ⊥) → cond applies (some (row .number)) (firstRefusal rows asked) ≡ some 0 → ⊥
-    by-row true above later k = let zero : row .number ≡ 0 = cc in omega arith
-    by-row false above later k = later k
 
 -- refusal 0 is a packet written
 written : (given : WriteCall) {reply : Reply} {after : List ℕ} → WritesInNumbers given reply after → reply .refusal ≡ 0 → Writes given (Length (reply .length)) after
@@ -55,7 +42,8 @@ written given {reply} {after} contract zero =
     by-refusal none e told = ap (λ (r : Reply). Length (r .length)) told
     by-refusal (some number) e told =
         let same : number ≡ 0 = sym (ap (λ (r : Reply). r .refusal) told) ∙ zero in
-        absurd (positive writeRefusals given refl (e ∙ ap some same))
+        let above : ltb 0 0 ≡ true = number-passes (ltb 0) writeRefusals given refl (e ∙ ap some same) in
+        absurd (omega (arith, ltb-true 0 0 above))
 
 pub exported-requests-agree : ExportedRequestsAgree
 exported-requests-agree given reply after contract zero board buffer =
@@ -68,7 +56,7 @@ responded answer.Silence e long = absurd (omega (arith, ap (λ (r : Reply). r .l
 responded (answer.Response size) e long = ap (λ (r : Reply). answer.Response (r .length)) (sym e)
 
 -- what fits is shown
-shown : (text buffer : List ℕ) {reply : Reply} {after : List ℕ} → ListsInNumbers text buffer reply after → length text ≤ length buffer → Shown text reply buffer after
+pub shown : (text buffer : List ℕ) {reply : Reply} {after : List ℕ} → ListsInNumbers text buffer reply after → length text ≤ length buffer → Shown text reply buffer after
 shown text buffer {reply} {after} contract short =
     let room : fits buffer 0 text ≡ true = le-leb (0 + length text) (length buffer) (omega arith) in
     let told : reply ≡ replyWith 0 (length text) =
