@@ -35,7 +35,6 @@ enum {
     UDGORNWY_PERIODS = 4,           /* of a day */
     UDGORNWY_ENTRY = 4,             /* bytes of a period */
     UDGORNWY_BOARD = UDGORNWY_ID + UDGORNWY_PASSWORD + 2 + UDGORNWY_STORE + UDGORNWY_DAYS * UDGORNWY_PERIODS * UDGORNWY_ENTRY,
-    UDGORNWY_SHORTEST_PACKET = 24,
     UDGORNWY_LONGEST_PACKET = 256,  /* also the room that a response and a request need */
     UDGORNWY_LONGEST_LISTING = 1753,
     UDGORNWY_CLIENT = 1,            /* the modes */
@@ -74,6 +73,20 @@ typedef struct {
     size_t length;    /* bytes written to the buffer's start, the rest stays; 0 where refused */
 } udgornwy_reply;
 
+/* Where the parts of a packet stand in its bytes. */
+typedef struct {
+    size_t id;         /* 16 bytes from here */
+    size_t password;   /* from here up to function */
+    size_t function;   /* FUNC, one byte */
+    size_t block, end; /* the data block, from the one up to the other */
+} udgornwy_places;
+
+/* What a packet that is taken apart comes to. */
+typedef struct {
+    uint16_t refusal;       /* 0: not refused */
+    udgornwy_places places; /* all 0 where refused */
+} udgornwy_parts;
+
 /* The library lays its structs out so: bytes without gaps, then a number at the next place that its size divides. */
 UDGORNWY_ASSERT(sizeof(udgornwy_entry) == UDGORNWY_ENTRY, "an entry has no gaps");
 UDGORNWY_ASSERT(sizeof(udgornwy_board) == UDGORNWY_BOARD, "a record has no gaps");
@@ -81,7 +94,23 @@ UDGORNWY_ASSERT(offsetof(udgornwy_result, refusal) == (UDGORNWY_BOARD + 1) / 2 *
 UDGORNWY_ASSERT(sizeof(udgornwy_result) == (UDGORNWY_BOARD + 1) / 2 * 2 + 2, "nothing follows the refusal");
 UDGORNWY_ASSERT(offsetof(udgornwy_reply, length) == sizeof(size_t), "the refusal takes the room of a length");
 UDGORNWY_ASSERT(sizeof(udgornwy_reply) == 2 * sizeof(size_t), "nothing follows the length");
+UDGORNWY_ASSERT(offsetof(udgornwy_parts, places) == sizeof(size_t), "the refusal takes the room of a place");
+UDGORNWY_ASSERT(sizeof(udgornwy_parts) == 6 * sizeof(size_t), "nothing follows the places");
 #undef UDGORNWY_ASSERT
+
+/* ---- Packets ---- */
+
+/*
+ * Takes a packet of any length apart, a request or a response: the check that udgornwy_packet, udgornwy_read and udgornwy_list make of it
+ * first, each with these refusals.
+ * Refusals:
+ *    2  packet under 24 or over 256 bytes
+ *    3  it does not begin with FD FD
+ *    4  checksum differs
+ *    5  TYPE or ID size differs
+ *    6  password size over 8, or no room for FUNC and checksum after it
+ */
+udgornwy_parts udgornwy_parse(const uint8_t *packet, size_t packet_length);
 
 /* ---- The board ---- */
 
@@ -102,11 +131,7 @@ udgornwy_result udgornwy_set_up(const uint8_t *id, size_t id_length, const uint8
  * Refusals:
  *   70  the record is not one that set-up and calls leave
  *    1  response under 256 bytes
- *    2  packet under 24 or over 256 bytes
- *    3  it does not begin with FD FD
- *    4  checksum differs
- *    5  TYPE or ID size differs
- *    6  password size over 8, or no room for FUNC and checksum after it
+ *    2 to 6  as for udgornwy_parse
  *    7  ID is neither the board's nor DEFAULT_DEVICEID
  *    8  not a search, and the password differs
  *    9  FUNC not 1 to 5
@@ -151,7 +176,7 @@ udgornwy_reply udgornwy_write(uint8_t *buffer, size_t buffer_length, const uint8
  * Answers 0, or
  *   40  the ID expected has not 16 bytes
  *   21  the password expected has more than 8 bytes, or one that is not of 0-9, a-z, A-Z
- *    2 to 6  as for udgornwy_packet
+ *    2 to 6  as for udgornwy_parse
  *    7  ID not the one asked for
  *    8  password not the one sent
  *    9  FUNC not 06

@@ -30,10 +30,9 @@ pub struct Response {
 }
 
 impl Response {
-    /// The ID of the board that answers; the reader has seen to its place.
+    /// The ID of the board that answers.
     pub fn id(&self) -> &[u8] {
-        const START: usize = 4;
-        self.bytes.get(START..START + ID_SIZE).unwrap_or(&[])
+        ffi::parse(&self.bytes).map_or(&[], |places| &self.bytes[places.id..][..ID_SIZE])
     }
 }
 

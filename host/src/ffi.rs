@@ -3,7 +3,6 @@
 use crate::refusal::Refusal;
 
 pub const ID_SIZE: usize = 16;
-pub const SHORTEST_PACKET: usize = 24;
 pub const LONGEST_PACKET: usize = 256;
 pub const LONGEST_LISTING: usize = 1753;
 const LONGEST_PASSWORD: usize = 8;
@@ -41,6 +40,25 @@ struct CallResult {
 struct Reply {
     refusal: u16,
     length: usize,
+}
+
+/// Where the parts of a packet stand.
+#[repr(C)]
+#[derive(Clone, Copy, Debug, PartialEq, Eq)]
+pub struct Places {
+    pub id: usize,
+    /// Up to `function`.
+    pub password: usize,
+    pub function: usize,
+    /// Up to `end`.
+    pub block: usize,
+    pub end: usize,
+}
+
+#[repr(C)]
+struct Parts {
+    refusal: u16,
+    places: Places,
 }
 
 /// What a packet is answered with.
@@ -102,6 +120,7 @@ extern "C" {
         value: *const u8,
         value_length: usize,
     ) -> CallResult;
+    fn udgornwy_parse(packet: *const u8, packet_length: usize) -> Parts;
     fn udgornwy_write(
         buffer: *mut u8,
         buffer_length: usize,
@@ -174,6 +193,13 @@ pub fn measure(board: Board, number: u16, value: &[u8]) -> Result<Board, Refusal
     // SAFETY: the slice is live.
     let result = unsafe { udgornwy_measure(board, number, value.as_ptr(), value.len()) };
     accepted(result.refusal).map(|()| result.board)
+}
+
+/// Takes a packet of any length apart.
+pub fn parse(packet: &[u8]) -> Result<Places, Refusal> {
+    // SAFETY: the slice is live.
+    let parts = unsafe { udgornwy_parse(packet.as_ptr(), packet.len()) };
+    accepted(parts.refusal).map(|()| parts.places)
 }
 
 /// Writes the request of some commands.

@@ -126,16 +126,16 @@ fn shown(report: &Report) -> Option<Shown> {
 mod tests {
     use super::*;
     use crate::exchange::Response;
-    use crate::ffi::Command;
+    use crate::ffi::{self, Command, ID_SIZE};
     use crate::rows::ROWS;
     use std::time::UNIX_EPOCH;
 
-    /// A response of these bytes; its ID is whatever stands where an ID does.
-    fn response(bytes: Vec<u8>) -> Response {
+    /// A packet with this ID.
+    fn response(id: [u8; ID_SIZE]) -> Response {
         Response {
             sender: ([127, 0, 0, 1], 4000).into(),
             time: UNIX_EPOCH,
-            bytes,
+            bytes: ffi::write(&id, b"", &[]).expect("a packet"),
             reports: Vec::new(),
         }
     }
@@ -164,15 +164,15 @@ mod tests {
                 let values = (0..=255_u8).step_by(17);
                 for value in values {
                     let bytes: Vec<u8> = (0..length).map(|at: u8| value.wrapping_add(at)).collect();
-                    check(&Report::new(number, Some(&bytes)), bytes.clone());
+                    check(&Report::new(number, Some(&bytes)), [value; ID_SIZE]);
                 }
             }
-            check(&Report::new(number, None), Vec::new());
+            check(&Report::new(number, None), [0; ID_SIZE]);
         }
     }
 
-    fn check(report: &Report, bytes: Vec<u8>) {
-        let (command, response) = (Command::new(1, report.number, &[]), response(bytes));
+    fn check(report: &Report, id: [u8; ID_SIZE]) {
+        let (command, response) = (Command::new(1, report.number, &[]), response(id));
         let line = Line {
             command: &command,
             report,
@@ -195,7 +195,7 @@ mod tests {
     #[test]
     fn several_boards_have_a_head_each() {
         let (command, report) = (Command::new(1, 2, &[]), Report::new(2, Some(&[3])));
-        let response = response(vec![b'A'; 30]);
+        let response = response([b'A'; ID_SIZE]);
         let lines = [Line {
             command: &command,
             report: &report,

@@ -1,7 +1,8 @@
 //! How many commands a packet takes: as many as its request and its response have room for.
 
 use crate::answer;
-use crate::ffi::{Command, LONGEST_PACKET, SHORTEST_PACKET, SILENT_WRITE, WRITE};
+use crate::ffi::{self, Command, DEFAULT_ID, WRITE};
+use crate::refusal::Refusal;
 use crate::rows::{self, ROWS};
 
 /// The commands cut into packets, in their order. A command that fits no packet has one of its own, which the writer refuses.
@@ -20,45 +21,23 @@ pub fn pack<'a>(commands: &'a [Command], password: &[u8]) -> Vec<&'a [Command]> 
 
 /// Whether some commands fit one packet, and their reports one response.
 pub fn fits(commands: &[Command], password: &[u8]) -> bool {
-    let room = LONGEST_PACKET.saturating_sub(SHORTEST_PACKET + password.len());
-    commands_length(commands) <= room && reports_length(commands) <= room
+    let reports: Vec<Command> = answer::reported(commands).map(longest_report).collect();
+    is_short(commands, password) && is_short(&reports, password)
 }
 
-/// The data block of a request.
-fn commands_length(commands: &[Command]) -> usize {
-    let (mut page, mut function) = (0, commands.first().map(|command| command.function));
-    let mut length = 0;
-    for command in commands {
-        let is_write = matches!(command.function, SILENT_WRITE | WRITE);
-        let default = if is_write { 1 } else { 0 };
-        length += switch(&mut function, Some(command.function));
-        length += switch(&mut page, command.number >> 8);
-        length += item(command.value.len(), default);
-    }
-    length
+/// The library's writer says how long a packet becomes.
+fn is_short(commands: &[Command], password: &[u8]) -> bool {
+    const TOO_LONG: Refusal = Refusal(43);
+    ffi::write(&DEFAULT_ID, password, commands) != Err(TOO_LONG)
 }
 
-/// The longest data block that a response to these commands can have.
-fn reports_length(commands: &[Command]) -> usize {
-    let mut page = 0;
-    let mut length = 0;
-    for command in answer::reported(commands) {
-        length += switch(&mut page, command.number >> 8);
-        length += item(longest_value(command.number), 1);
-    }
-    length
-}
-
-/// The bytes of FF or FC, where the page or the function changes.
-fn switch<T: PartialEq>(current: &mut T, next: T) -> usize {
-    let bytes = if *current == next { 0 } else { 2 };
-    *current = next;
-    bytes
-}
-
-/// A parameter's byte and its value, with FE where the length is not the default.
-fn item(length: usize, default: usize) -> usize {
-    1 + length + if length == default { 0 } else { 2 }
+/// A write that takes the room of the longest report that a command can have: what is written is encoded as what is reported.
+fn longest_report(command: &Command) -> Command {
+    Command::new(
+        WRITE,
+        command.number,
+        &vec![0; longest_value(command.number)],
+    )
 }
 
 /// The longest value of a row. A number that the table lacks may be a row of the guide, and those are not longer than the longest here.
@@ -71,7 +50,7 @@ fn longest_value(number: u16) -> usize {
 #[cfg(test)]
 mod tests {
     use super::*;
-    use crate::ffi::{self, Answer};
+    use crate::ffi::Answer;
 
     const ID: &[u8] = b"002D6E1B34565815";
 
@@ -98,8 +77,16 @@ mod tests {
         board
     }
 
+    fn is_answered(commands: &[Command], password: &[u8]) -> bool {
+        ffi::write(ID, password, commands).is_ok_and(|packet| {
+            let answer = ffi::packet(&mut board(password), &packet);
+            matches!(answer, Answer::Response(_))
+        })
+    }
+
+    /// With the longest texts, what fits is answered, and one read more is not.
     #[test]
-    fn lengths_are_those_of_the_writer_and_the_board() {
+    fn what_fits_is_what_the_writer_and_the_board_take() {
         let mixed = [
             command(1, 0x01, 0),
             command(4, 0x02, 0),
@@ -109,18 +96,14 @@ mod tests {
             command(1, 0x77, 1),
             command(5, 0x0111, 0),
         ];
-        let reads = reads();
-        for commands in [&mixed[..], &reads[..30], &reads[30..60], &reads[52..]] {
-            for password in [&b""[..], b"12345678"] {
-                let packet = ffi::write(ID, password, commands).expect("a request");
-                let head = SHORTEST_PACKET + password.len();
-                assert_eq!(packet.len(), head + commands_length(commands));
-                let Answer::Response(response) = ffi::packet(&mut board(password), &packet) else {
-                    panic!("no response");
-                };
-                // 0077 with one value byte is reported as unknown: seven bytes less than an entry takes.
-                let less = if commands.len() == mixed.len() { 7 } else { 0 };
-                assert_eq!(response.len() + less, head + reports_length(commands));
+        for password in [&b""[..], b"12345678"] {
+            assert!(fits(&mixed, password) && is_answered(&mixed, password));
+            let reads = reads();
+            let packets = pack(&reads, password);
+            assert!(packets.len() > 1);
+            for pair in packets.windows(2) {
+                let one_more = [pair[0], &pair[1][..1]].concat();
+                assert!(is_answered(pair[0], password) && !is_answered(&one_more, password));
             }
         }
     }

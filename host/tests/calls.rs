@@ -6,7 +6,7 @@
 
 use std::fs;
 use std::path::Path;
-use udgornwy::ffi::{self, Answer, Board, Command};
+use udgornwy::ffi::{self, Answer, Board, Command, Places};
 use udgornwy::hex::{self, digits};
 use udgornwy::refusal::Refusal;
 
@@ -132,15 +132,20 @@ fn lines(name: &str) -> Vec<String> {
     text.split_terminator('\n').map(String::from).collect()
 }
 
+/// The well-formed calls with their stored answers.
+fn calls() -> impl Iterator<Item = (String, String)> {
+    let passed_over = |line: &String| line.is_empty() || line.starts_with('#');
+    let calls = lines("stdin")
+        .into_iter()
+        .filter(move |line| !passed_over(line));
+    let answered = calls.zip(lines("stdout"));
+    answered.filter(|(_, stored)| stored != "bad line")
+}
+
 #[test]
 fn the_libraries_answer_the_call_list_as_stored() {
-    let passed_over = |line: &String| line.is_empty() || line.starts_with('#');
-    let calls = lines("stdin").into_iter().filter(|line| !passed_over(line));
     let (mut session, mut asked) = (Session(None), 0);
-    for (call, stored) in calls.zip(lines("stdout")) {
-        if stored == "bad line" {
-            continue;
-        }
+    for (call, stored) in calls() {
         if let Some(answer) = session.answer(&call) {
             let is_read = answer == "reports" && stored.starts_with("reports");
             assert!(is_read || answer == stored, "{call}\n{answer}\n{stored}");
@@ -148,4 +153,40 @@ fn the_libraries_answer_the_call_list_as_stored() {
         }
     }
     assert!(asked > 3000, "only {asked} calls");
+}
+
+/// The parser refuses what the stored listing refuses with 2 to 6, and finds the parts of every other packet.
+#[test]
+fn the_parser_takes_apart_what_the_listing_does() {
+    let (mut refused, mut taken_apart) = (0, 0);
+    for (call, stored) in calls() {
+        let Some(packet) = call.strip_prefix("list ").map(bytes) else {
+            continue;
+        };
+        match ffi::parse(&packet) {
+            Err(refusal) => {
+                assert_eq!(stored, format!("refused,{}", refusal.0), "{call}");
+                refused += 1;
+            }
+            Ok(places) => {
+                let number = stored.strip_prefix("refused,");
+                assert!(number.is_none_or(|number| ["9", "10"].contains(&number)));
+                assert_eq!(places, places_of(&packet), "{call}");
+                taken_apart += 1;
+            }
+        }
+    }
+    assert!(refused > 20 && taken_apart > 20, "{refused}, {taken_apart}");
+}
+
+/// Where the guide puts the parts of a packet.
+fn places_of(packet: &[u8]) -> Places {
+    let function = 21 + usize::from(packet[20]);
+    Places {
+        id: 4,
+        password: 21,
+        function,
+        block: function + 1,
+        end: packet.len() - 2,
+    }
 }

@@ -6,7 +6,7 @@ use std::process::{Command, Stdio};
 
 use udgornwy::ffi::Board;
 
-/// Writes the last entry of the schedule and looks for it where the header has it.
+/// Writes the last entry of the schedule, finds the request's ID, and looks for the entry where the header has it.
 const PROGRAM: &str = r#"
 #include <stdio.h>
 #include "udgornwy.h"
@@ -21,10 +21,13 @@ int main(void)
     udgornwy_result result = udgornwy_set_up(id, sizeof id, password, sizeof password, UDGORNWY_CLIENT);
     udgornwy_reply request = udgornwy_write(packet, sizeof packet, id, sizeof id, password, sizeof password,
                                             functions, 1, numbers, 1, lengths, 1, value, sizeof value);
+    udgornwy_parts parts = udgornwy_parse(packet, request.length);
+    udgornwy_parts cut = udgornwy_parse(packet, request.length - 1);
     udgornwy_reply answer = udgornwy_packet(&result.board, packet, request.length, response, sizeof response);
     udgornwy_entry last = result.board.schedule[UDGORNWY_DAYS - 1][UDGORNWY_PERIODS - 1];
     printf("%d: %u %u %u, %u %u %u %u\n", (int)sizeof(udgornwy_board), result.refusal, request.refusal, answer.refusal,
            last.speed, last.temperature, last.minute, last.hour);
+    printf("%u: %u %u, %u: %u\n", parts.refusal, packet[parts.places.id], (unsigned)parts.places.end, cut.refusal, (unsigned)cut.places.end);
     return 0;
 }
 "#;
@@ -52,7 +55,8 @@ fn compiled(compiler: &str, language: &str, standard: &str) -> String {
 }
 
 fn expected() -> String {
-    format!("{}: 0 0 0, 5 30 59 23\n", std::mem::size_of::<Board>())
+    let board = std::mem::size_of::<Board>();
+    format!("{board}: 0 0 0, 5 30 59 23\n0: 1 32, 4: 0\n")
 }
 
 #[test]

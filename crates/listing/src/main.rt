@@ -5,7 +5,7 @@ use tool::listing::Listed;
 
 fn main() {
     // One byte more than the longest packet, so that a longer input is refused by its length.
-    let mut input = [0u8; 257];
+    let mut input = [0u8; framing::LONGEST_PACKET + 1];
     let count = io::read_full(STDIN_FILENO, &mut input);
     // The longest listing.
     let mut text = [0u8; 1753];
