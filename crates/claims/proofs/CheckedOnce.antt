@@ -17,6 +17,7 @@ use Rattle.framing.specs.declared.Parsed.{Parsed}
 use Rattle.framing.specs.declared.Parsed.the-variants as parsed
 use Rattle.framing.specs.declared.Places.{Places}
 use Rattle.framing.proofs.Answers.{read-concludes}
+use Rattle.framing.proofs.Refusals.{passed-then}
 use Rattle.block.specs.Command.{Report}
 use Rattle.block.specs.Encoding.{every}
 use Rattle.model.specs.Step.{Call, call, request, requestRefusals, stepRefusal, Outcome, outcomeOf, outcomeBy, step}
@@ -30,7 +31,7 @@ use Rattle.tool.proofs.Refusals.{read-refusal, any-refusal}
 use Rattle.claims.specs.OneCheck.{BothEnds, Ready, Answers, outcomeAt, responseAt, listingAt, RefusedAlike, TestedThere, OneCheck}
 use Rattle.claims.proofs.Numbers.{number-passes}
 
--- where the first list has numbers up to 6 alone and the rest numbers from 7 on, one up to 6 is of the first
+-- where the rest has numbers from 7 on, one up to 6 is of the first
 first-decides :
     (first rest : Option ℕ) {number : ℕ} → number ≤ 6 → ((other : ℕ) → rest ≡ some other → leb 7 other ≡ true)
     → (orElse first rest ≡ some number) ↔ (first ≡ some number)
@@ -109,7 +110,7 @@ module _ (given : BothEnds) (ready : Ready given) (answers : Answers given) wher
         }
 
   tested-at : {places : Places} → answers .parsed ≡ parsed.Frame places → TestedThere given answers
-  unfolding called asked step orElse
+  unfolding called asked step
   tested-at {places} e =
       let stood = concluded .read e in
       let right = stood .accepted in
@@ -118,14 +119,14 @@ module _ (given : BothEnds) (ready : Ready given) (answers : Answers given) wher
         places = places;
         found = e;
         board = (λ i. outcomeOf (answers .steps .board i) (answers .steps .answer i) (answers .steps .buffer i))
-            ∙ ap (λ (o : Option ℕ). outcomeBy o (request called) (given .buffer)) (board-refusal ∙ ap (λ (o : Option ℕ). orElse o (firstRefusal requestRefusals (request called))) right)
+            ∙ ap (λ (o : Option ℕ). outcomeBy o (request called) (given .buffer)) (board-refusal ∙ passed-then _ right)
             ∙ ap (outcomeAt given) here;
         reader = answers .reads
-            ∙ ap (λ (o : Option ℕ). responseAs o (placesOf (given .packet))) (reader-refusal ∙ ap (λ (o : Option ℕ). orElse o (firstRefusal frameRefusals (received asked))) right)
+            ∙ ap (λ (o : Option ℕ). responseAs o (placesOf (given .packet))) (reader-refusal ∙ passed-then _ right)
             ∙ ap (responseAt given) here;
         listed =
             ap (λ (o : Option ℕ). listingAs o (Option·getD (reportsOf (given .packet)) []))
-            (any-refusal (given .packet) ∙ ap (λ (o : Option ℕ). orElse o (firstRefusal responseRefusals (frameOf (given .packet)))) right)
+            (any-refusal (given .packet) ∙ passed-then _ right)
             ∙ ap (listingAt given) here;
       }
 
