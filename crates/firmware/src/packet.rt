@@ -5,7 +5,7 @@ ghost use mathlib.Core.Path.{_≡_};
 ghost use Rattle.framing.specs.Packet.{parsedOf};
 ghost use Rattle.firmware.specs.Packet.{partsOf};
 
-// Where the parts of a packet stand; refusal 0 where there is none, and else every place 0.
+// Refusal 0: the parts stand at these places. With any other every place is 0.
 #[repr(C)]
 pub struct Parts {
     pub refusal: u16,
