@@ -22,7 +22,7 @@ use Rattle.block.specs.Encoding.{change, reportBody, encodeReport, encodeReport
 use Rattle.block.specs.Reading.{isSome}
 use Rattle.block.specs.Request.{onlyReads}
 use Rattle.block.proofs.AllReads.{all-reads, other-named}
-use Rattle.block.proofs.LowBytes.{isLow, low-bytes}
+use Rattle.block.proofs.Decoded.{isLow, low-bytes}
 use Rattle.store.specs.Layout.{valueOf}
 use Rattle.store.specs.Rows.{rows, indexIn, known}
 use Rattle.store.specs.Sound as stored

@@ -17,6 +17,7 @@ use Rattle.encoding.specs.Writing.{Writes}
 use Rattle.encoding.specs.declared.Written.{Written}
 use Rattle.encoding.specs.declared.Written.the-variants.{Until, NoRoom, NoEncoding}
 use Rattle.encoding.proofs.Written as Written
+use Rattle.block.proofs.Every.{every-join}
 use Rattle.block.proofs.RoundTrips.{reports-join, last-page-join}
 use Rattle.commands.specs.declared.draft.Cursor.{Cursor}
 use Rattle.commands.specs.declared.draft.Draft.{Draft}
@@ -58,11 +59,6 @@ module _ (bytes : List ℕ) (cursor : Cursor) where
       ∙ rw (taken-one (draftAt bytes cursor) r, encoded-one (draftAt bytes cursor) r)
 
 -- reports after reports
-every-join : (rs qs : List Report) → every encodableReport (rs ++ qs) ≡ (every encodableReport rs && every encodableReport qs)
-unfolding every
-every-join [] qs = refl
-every-join (r ∷ rs) qs = rw (every-join rs qs, and-assoc)
-
 module _ (draft : Draft) (rs qs : List Report) where
   first : List ℕ
   first = encodeReports (draft .page) rs
@@ -85,7 +81,7 @@ module _ (draft : Draft) (rs qs : List Report) where
   unfolding first second
   taken-join h =
       rw (
-        every-join rs qs,
+        every-join encodableReport rs qs,
         both-true (every encodableReport rs) _ h .0,
         ends-join,
         length-overwrite (draft .bytes) (draft .length) first (room h),
@@ -100,7 +96,7 @@ module _ (draft : Draft) (rs qs : List Report) where
 
   over-by-form : (form : Bool) → every encodableReport rs ≡ form → taken draft rs ≡ false → taken draft (rs ++ qs) ≡ false
   unfolding first second
-  over-by-form false e h = rw (every-join rs qs, e)
+  over-by-form false e h = rw (every-join encodableReport rs qs, e)
   over-by-form true e h =
       let short : length (draft .bytes) < draft .length + length first = leb-false _ _ (rw e at h) in
       let shorter : length (draft .bytes) < draft .length + length (encodeReports (draft .page) (rs ++ qs)) = omega (arith, ends-join) in

@@ -43,6 +43,7 @@ use Rattle.model.specs.Record.{isId, micra, parametersOf, withParameters
 use Rattle.model.specs.Step.{Call, request, unsound, isDiscovery, commandsOf, reportsOf, stepRefusal, step}
 use Rattle.model.specs.declared.Board.{Board}
 use Rattle.model.specs.declared.Parameters.{Parameters}
+use Rattle.model.proofs.Joining.{runs-join, none-run}
 use Rattle.model.proofs.RowOperations.{operationOf, operates, done, same-slot, carried-out}
 use Rattle.model.proofs.Soundness.{Sized, SoundParts, sound-parts, parts-sound}
 use Rattle.model.proofs.StepRefusals.{step-refusal-by, step-refused, passed-step, answered-board, on-step}
@@ -79,20 +80,6 @@ entries-written p c named writes = rw (named, writes)
 pub read-keeps : (p : Parameters) (c : Command) → c .function ≡ 1 → afterCommand p c ≡ p
 unfolding afterCommand
 read-keeps p c e = rw e (cond-same (isSchedule c) p)
-
-run-join : (before remaining : List Command) (p : Parameters) → run p (before ++ remaining) ≡ run (run p before) remaining
-unfolding run
-run-join [] remaining p = refl
-run-join (c ∷ before) remaining p = run-join before remaining (afterCommand p c)
-
-reports-join :
-    (before : List Command) (command : Command) (remaining : List Command) (p : Parameters)
-    → runReports p (before ++ command ∷ remaining)
-    ≡ runReports p before ++ reported (run p (before ++ command ∷ [])) command ++ runReports (run p (before ++ command ∷ [])) remaining
-unfolding run runReports
-reports-join [] command remaining p = refl
-reports-join (c ∷ before) command remaining p =
-    ap (λ (rs : List Report). reported (afterCommand p c) c ++ rs) (reports-join before command remaining (afterCommand p c)) ∙ simp append-assoc
 
 -- no row has the schedule's number
 known-row : (n : ℕ) → known n ≡ true → eqb n scheduleNumber ≡ false
@@ -378,7 +365,16 @@ module _ (p : Parameters) (before : List Command) (command : Command) (remaining
   -- the commands after run on what the command leaves
   run-after : run p (before ++ command ∷ remaining) ≡ run (afterCommand (run p before) command) remaining
   unfolding run
-  run-after = run-join before (command ∷ remaining) p
+  run-after = runs-join p before (command ∷ remaining) .leaves
+
+  reports-after :
+      runReports p (before ++ command ∷ remaining)
+      ≡ runReports p before ++ reported (run p (before ++ command ∷ [])) command ++ runReports (run p (before ++ command ∷ [])) remaining
+  unfolding run runReports
+  reports-after =
+      runs-join p before (command ∷ remaining) .reports
+      ∙ ap (λ (q : Parameters). runReports p before ++ (reported q command ++ runReports q remaining)) (sym (runs-join p before (command ∷ []) .leaves))
+      ∙ simp append-assoc
 
   row-after :
       noneChanges (commandNumber command) remaining ≡ true
@@ -412,9 +408,10 @@ no-discovery c other = by-tests (eqb (c .board .mode) 1) (same (frameOf (c .pack
 
 -- no commands report nothing, in a discovery or not
 no-reports : (c : Call) → Asks c [] → reportsOf (request c) ≡ []
-unfolding runReports discoverReports
+unfolding discoverReports
 no-reports c e =
     ap (λ (cs : List Command). cond (isDiscovery (request c)) (discoverReports (c .board .id) cs) (runReports (c .board .parameters) cs)) (asked c [] e)
+    ∙ ap (cond (isDiscovery (request c)) []) (none-run (c .board .parameters) .reports)
     ∙ cond-same (isDiscovery (request c)) []
 
 -- what holds of the record and, if it is sound, of it with the parameters that the commands leave
@@ -450,7 +447,7 @@ runs c accepted no-search before command remaining read =
       reports =
           ap (λ (d : Bool). cond d (discoverReports (c .board .id) (commandsOf (request c))) (runReports p (commandsOf (request c)))) other
           ∙ ap (runReports p) e
-          ∙ reports-join before command remaining p;
+          ∙ reports-after p before command remaining sized;
     }
 
 step-sound : (c : Call) → sound (c .board) ≡ true → sound (step c .board) ≡ true

@@ -4,14 +4,15 @@ use native.Mathlib.Omega.{arith}
 use mathlib.Core.Bool.{Bool, true, false, cond, _&&_}
 use mathlib.Core.List.{List, [], _∷_, _++_}
 use mathlib.Core.Option.{Option, none, some, Option·getD}
-use mathlib.Core.Path.{_≡_, refl}
+use mathlib.Core.Path.{_≡_, refl, _∙_}
 use borrow.Author.Tests.{le-leb}
 use lib.Dec.{eqb}
 use lib.ListN.{length}
 use Rattle.octets.proofs.Booleans.{both-true}
 use Rattle.block.specs.Command.{Command, commandNumber, Report, held}
 use Rattle.block.specs.Encoding.{encodableReport, every}
-use Rattle.block.proofs.LowBytes.{isLow, low-bytes}
+use Rattle.block.proofs.Decoded.{isLow, low-bytes}
+use Rattle.block.proofs.Every.{every-join}
 use Rattle.store.specs.Layout.{valueOf}
 use Rattle.store.specs.Rows.{known}
 use Rattle.store.specs.Sound as stored
@@ -32,11 +33,7 @@ abbrev pub allEncodable : List Report → Type 0
 allEncodable reports = every encodableReport reports ≡ true
 
 pub encodable-join : (left right : List Report) → allEncodable left → allEncodable right → allEncodable (left ++ right)
-unfolding every
-encodable-join [] right l r = r
-encodable-join (first ∷ left) right l r =
-    let both = both-true (encodableReport first) (every encodableReport left) l in
-    λ i. both .0 i && encodable-join left right (both .1) r i
+encodable-join left right l r = every-join encodableReport left right ∙ (λ i. l i && r i)
 
 -- a value of 1 to 255 bytes
 encodable-held : (c : Command) (value : List ℕ) → isLow c ≡ true → 1 ≤ length value → length value ≤ 255 → allEncodable (held (c .page) (c .low) value ∷ [])

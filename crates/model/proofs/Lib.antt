@@ -2,6 +2,7 @@ pub mod StepRefusals
 pub mod Soundness
 pub mod Refused
 pub mod RowOperations
+pub mod Joining
 pub mod Changed
 pub mod Unauthenticated
 pub mod Noninterfering

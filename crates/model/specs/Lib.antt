@@ -5,6 +5,7 @@ pub mod Step
 pub mod Measurement
 pub mod Authentication
 pub mod Refusals
+pub mod Joining
 pub mod Changes
 pub mod Discovery
 pub mod PublicReply
