@@ -9,12 +9,13 @@ use lib.Dec.{leb, eqb}
 use lib.ListN.{length, take, length-append}
 use lib.Seq.{drop-at}
 use Rattle.octets.proofs.Booleans.{both-true}
-use Rattle.block.specs.Command.{Command, commandOf, isRead, isFunction}
-use Rattle.block.specs.Encoding.{change, parameter, encodeCommand, encodeCommandsFrom, firstFunction, encodeCommands, encodableLength, encodableCommand, every}
+use Rattle.block.specs.Command.{Command, commandOf, isRead}
+use Rattle.block.specs.Encoding.{change, parameter, encodeCommand, encodeCommandsFrom, firstFunction, encodeCommands, encodableCommand, every}
 use Rattle.block.specs.Reading.{withValue, whole, isSome}
 use Rattle.block.specs.Request.{items, defaultLength, onlyReads}
 use Rattle.block.proofs.Commands.{skip}
 use Rattle.block.proofs.Places.{some-more}
+use Rattle.block.proofs.RoundTrips.{encodable-parts}
 
 abbrev wellFormed : ℕ → List ℕ → Bool
 wellFormed page block = isSome (whole (items 1 page 1 block 0))
@@ -52,12 +53,10 @@ after-read : (page : ℕ) (c : Command) (rest : List ℕ) → encodableCommand c
     → wellFormed page (encodeCommand page 1 c ++ rest) ≡ wellFormed (c .page) rest
 unfolding encodeCommand
 after-read page c rest encodable reads =
-    let length-fits = both-true (isFunction (c .function)) (encodableLength (defaultLength (c .function)) (c .low) (length (c .value))) encodable .1 in
-    let low-byte = both-true (leb (c .low) 0xFB) (leb (length (c .value)) 255) (both-true _ (leb (defaultLength (c .function)) (length (c .value))) length-fits .0) .0 in
     ap (λ (f : ℕ). wellFormed page ((change 0xFC 1 f ++ change 0xFF page (c .page) ++ parameter (defaultLength f) (c .low) (c .value)) ++ rest)) reads
     ∙ ap (wellFormed page) (append-assoc (change 0xFF page (c .page)) (parameter 0 (c .low) (c .value)) rest)
     ∙ after-page page (c .page) (parameter 0 (c .low) (c .value) ++ rest)
-    ∙ after-parameter (c .page) (c .low) (c .value) rest low-byte
+    ∙ after-parameter (c .page) (c .low) (c .value) rest (encodable-parts c encodable .1 .low-byte)
 
 all-formed : (page : ℕ) (cs : List Command) → every encodableCommand cs ≡ true → every isRead cs ≡ true → wellFormed page (encodeCommandsFrom page 1 cs) ≡ true
 unfolding every encodeCommandsFrom whole items

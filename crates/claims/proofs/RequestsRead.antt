@@ -24,7 +24,7 @@ use Rattle.block.specs.Encoding.{firstFunction, encodableCommand, every}
 use Rattle.block.specs.Reading.{isSome}
 use Rattle.block.specs.Request.{commands, onlyReads, namesOther}
 use Rattle.block.proofs.AllReads.{other-named}
-use Rattle.block.proofs.RoundTrips.{commands-decode}
+use Rattle.block.proofs.RoundTrips.{encodable-parts, commands-decode}
 use Rattle.model.specs.Record.{client, accessPoint, passwordOf, sound}
 use Rattle.model.specs.Refusals.{Silent, Responds}
 use Rattle.model.specs.Step.{Request, Call, call, request, isDiscovery, decoded, response, stepRefusals, stepRefusal}
@@ -86,7 +86,7 @@ unfolding every
 first-within [] h = (omega arith, omega arith)
 first-within (c ∷ cs) h =
     let first = both-true (encodableCommand c) (every encodableCommand cs) h .0 in
-    let within = both-true (leb 1 (c .function)) (leb (c .function) 5) (both-true (isFunction (c .function)) _ first .0) in
+    let within = both-true (leb 1 (c .function)) (leb (c .function) 5) (encodable-parts c first .0) in
     (leb-true 1 (c .function) (within .0), leb-true (c .function) 5 (within .1))
 
 -- equal bytes are the same

@@ -398,13 +398,22 @@ module _ (p : Parameters) (before : List Command) (command : Command) (remaining
 asked : (c : Call) (cs : List Command) → Asks c cs → commandsOf (request c) ≡ cs
 asked c cs e = ap (λ (o : Option (List Command)). Option·getD o []) e
 
-no-discovery : (c : Call) → (c .board .mode ≡ 1 → frameOf (c .packet) .id ≡ defaultId → ⊥) → isDiscovery (request c) ≡ false
+pub no-discovery : (c : Call) → (c .board .mode ≡ 1 → frameOf (c .packet) .id ≡ defaultId → ⊥) → isDiscovery (request c) ≡ false
 no-discovery c other = by-tests (eqb (c .board .mode) 1) (same (frameOf (c .packet) .id) defaultId) refl refl
   where
     by-tests : (mode id : Bool) → eqb (c .board .mode) 1 ≡ mode → same (frameOf (c .packet) .id) defaultId ≡ id → (mode && id) ≡ false
     by-tests false id e h = refl
     by-tests true false e h = refl
     by-tests true true e h = absurd (other (eqb-true _ 1 e) (same-equal _ _ h))
+
+-- a packet that is no discovery: what its commands report, and what they leave if it is accepted
+module _ (c : Call) (other : isDiscovery (request c) ≡ false) where
+  pub commands-report : reportsOf (request c) ≡ runReports (c .board .parameters) (commandsOf (request c))
+  commands-report = ap (λ (d : Bool). cond d (discoverReports (c .board .id) (commandsOf (request c))) (runReports (c .board .parameters) (commandsOf (request c)))) other
+
+  pub commands-leave : stepRefusal c ≡ none → step c .board ≡ withParameters (c .board) (run (c .board .parameters) (commandsOf (request c)))
+  commands-leave accepted =
+      answered-board c accepted ∙ ap (λ (d : Bool). cond d (c .board) (withParameters (c .board) (run (c .board .parameters) (commandsOf (request c))))) other
 
 -- no commands report nothing, in a discovery or not
 no-reports : (c : Call) → Asks c [] → reportsOf (request c) ≡ []
@@ -433,10 +442,7 @@ runs c accepted no-search before command remaining read =
     let sized : Sized p = sound-parts (c .board) (not-false _ (passed-step c accepted .board)) .sized in
     let other : isDiscovery (request c) ≡ false = no-discovery c no-search in
     let e : commandsOf (request c) ≡ before ++ command ∷ remaining = asked c _ read in
-    let left : step c .board .parameters ≡ run p (before ++ command ∷ remaining) =
-    ap (λ (b : Board). b .parameters)
-    (answered-board c accepted
-    ∙ (λ i. cond (other i) (c .board) (withParameters (c .board) (run p (e i))))) in
+    let left : step c .board .parameters ≡ run p (before ++ command ∷ remaining) = ap (λ (b : Board). b .parameters) (commands-leave c other accepted) ∙ ap (run p) e in
     record {
       carried = λ h.
           subst (λ (q : Parameters). CarriedOut command (commandNumber command) (run p before .store) (q .store)) (sym left)
@@ -444,10 +450,7 @@ runs c accepted no-search before command remaining read =
       stored-entry = λ day period is-day is-period stored h.
           ap (λ (q : Parameters). entryAt (q .schedule) day period) left
           ∙ entry-after p before command remaining sized day period is-day is-period stored h;
-      reports =
-          ap (λ (d : Bool). cond d (discoverReports (c .board .id) (commandsOf (request c))) (runReports p (commandsOf (request c)))) other
-          ∙ ap (runReports p) e
-          ∙ reports-after p before command remaining sized;
+      reports = commands-report c other ∙ ap (runReports p) e ∙ reports-after p before command remaining sized;
     }
 
 step-sound : (c : Call) → sound (c .board) ≡ true → sound (step c .board) ≡ true

@@ -142,18 +142,18 @@ answered-by c passed (report ∷ reports) r e =
     })
 
 -- silence and a response are no refusal
-none-refused : (c : Call) → ((number : ℕ) → step c .answer ≡ answer.Refused number → ⊥) → stepRefusal c ≡ none
+pub none-refused : (c : Call) → ((number : ℕ) → step c .answer ≡ answer.Refused number → ⊥) → stepRefusal c ≡ none
 none-refused c other = by-refusal (stepRefusal c) refl
   where
     by-refusal : (o : Option ℕ) → stepRefusal c ≡ o → stepRefusal c ≡ none
     by-refusal none e = e
     by-refusal (some number) e = absurd (other number (ap (λ (o : Outcome). o .answer) (step-refused c e)))
 
-answered-none : (c : Call) → Silent c ⊎ Responds c → stepRefusal c ≡ none
+pub answered-none : (c : Call) → Silent c ⊎ Responds c → stepRefusal c ≡ none
 answered-none c (inl silent) = none-refused c (λ number e. let impossible : _≡_ {A = ℕ} 0 1 = cc (silent .answer) in omega arith)
 answered-none c (inr responds) = none-refused c (λ number e. let impossible : _≡_ {A = ℕ} 0 1 = cc (responds .answer) in omega arith)
 
-none-answered : (c : Call) → stepRefusal c ≡ none → Silent c ⊎ Responds c
+pub none-answered : (c : Call) → stepRefusal c ≡ none → Silent c ⊎ Responds c
 none-answered c e = answered-by c (passed-step c e) (reportsOf (request c)) refl (step-answered c e)
 
 pub packets-answered : PacketsAnswered
