@@ -5,6 +5,7 @@ mod blocks;
 mod commands;
 mod examples;
 mod framing;
+mod joining;
 mod lines;
 mod records;
 mod rows;
@@ -60,6 +61,7 @@ pub fn list() -> Vec<Entry> {
     rows::add(&mut edges);
     records::add(&mut edges);
     schedule::add(&mut edges);
+    joining::add(&mut edges);
     tool::add(&mut edges);
     lines::add(&mut edges);
     edges.entries

@@ -3,6 +3,7 @@
 mod blocks;
 mod board_calls;
 mod identities;
+mod joining;
 mod lines;
 mod packets;
 mod poke_calls;
@@ -27,7 +28,7 @@ struct Generator {
 type Scenario = fn(&mut Generator);
 
 /// How often each scenario comes, in parts of their sum.
-const SCENARIOS: [(usize, Scenario); 22] = [
+const SCENARIOS: [(usize, Scenario); 23] = [
     (5, Generator::set_up),
     (24, Generator::rightful_traffic),
     (8, Generator::one_row),
@@ -45,6 +46,7 @@ const SCENARIOS: [(usize, Scenario); 22] = [
     (14, Generator::schedule_traffic),
     (4, Generator::poke_entry),
     (7, Generator::tool_to_board),
+    (2, Generator::joined_packets),
     (5, Generator::faulty_write),
     (2, Generator::full_write),
     (8, Generator::handmade_response),

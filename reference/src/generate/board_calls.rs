@@ -9,7 +9,7 @@ use crate::record::{ACCESS_POINT, CLIENT};
 use crate::rows::{self, Access};
 
 /// The most data that fits beside a password.
-fn room(password: &[u8]) -> usize {
+pub fn room(password: &[u8]) -> usize {
     LONGEST - SHORTEST - password.len()
 }
 
