@@ -39,8 +39,10 @@ fn ask(request: &Request, unit: &Unit) -> Result<Outcome, String> {
         Kind::Search => target::resolve_any(&unit.host)?,
         Kind::Rows | Kind::Schedule => target::resolve(&unit.host)?,
     };
+    let packets = packing::pack(&request.commands, &unit.password);
+    let packets = packets.map_err(|refusal| format!("the request is {refusal}"))?;
     let mut answers: Vec<(&[Command], Response)> = Vec::new();
-    for commands in packing::pack(&request.commands, &unit.password) {
+    for commands in packets {
         let is_first = answers.is_empty();
         let responses = exchange(request, unit, target, commands);
         let responses = responses.map_err(|failure| explain(request, failure, is_first))?;

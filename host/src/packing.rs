@@ -1,22 +1,24 @@
-//! How many commands a packet takes: as many as its request and its response have room for.
+//! How many commands a packet takes: as many as its request and its response have room for. That one packet reports and leaves what its
+//! commands would one by one is proved of the exported calls (`ExportedPacketsJoin`, docs/CLAIMS.md), for packets with no call between them.
 
 use crate::answer;
 use crate::ffi::{self, Command, DEFAULT_ID, WRITE};
 use crate::refusal::Refusal;
 use crate::rows::{self, ROWS};
 
-/// The commands cut into packets, in their order. A command that fits no packet has one of its own, which the writer refuses.
-pub fn pack<'a>(commands: &'a [Command], password: &[u8]) -> Vec<&'a [Command]> {
+/// The commands joined in packets, in their order, or why one of them can be written in none: so nothing is sent before that is known.
+pub fn pack<'a>(commands: &'a [Command], password: &[u8]) -> Result<Vec<&'a [Command]>, Refusal> {
     let mut packets = Vec::new();
     let mut rest = commands;
     while !rest.is_empty() {
         let sizes = 1..=rest.len();
         let fitting = sizes.take_while(|size| fits(&rest[..*size], password));
         let (packet, others) = rest.split_at(fitting.last().unwrap_or(1));
+        ffi::write(&DEFAULT_ID, password, packet)?;
         packets.push(packet);
         rest = others;
     }
-    packets
+    Ok(packets)
 }
 
 /// Whether some commands fit one packet, and their reports one response.
@@ -51,6 +53,7 @@ fn longest_value(number: u16) -> usize {
 mod tests {
     use super::*;
     use crate::ffi::Answer;
+    use crate::report::{self, Report};
 
     const ID: &[u8] = b"002D6E1B34565815";
 
@@ -99,7 +102,7 @@ mod tests {
         for password in [&b""[..], b"12345678"] {
             assert!(fits(&mixed, password) && is_answered(&mixed, password));
             let reads = reads();
-            let packets = pack(&reads, password);
+            let packets = pack(&reads, password).expect("packets");
             assert!(packets.len() > 1);
             for pair in packets.windows(2) {
                 let one_more = [pair[0], &pair[1][..1]].concat();
@@ -112,7 +115,7 @@ mod tests {
     fn packets_are_full_and_in_order() {
         for password in [&b""[..], b"1111", b"12345678"] {
             let commands = [reads(), reads(), vec![command(1, 0x0101, 0); 9]].concat();
-            let packets = pack(&commands, password);
+            let packets = pack(&commands, password).expect("packets");
             assert_eq!(packets.concat(), commands);
             assert!(packets.iter().all(|packet| fits(packet, password)));
             for pair in packets.windows(2) {
@@ -123,11 +126,60 @@ mod tests {
     }
 
     #[test]
-    fn a_command_that_is_too_long_stands_alone() {
-        let commands = [command(3, 0x95, 255), command(1, 0x01, 0)];
-        let packets = pack(&commands, b"");
-        assert_eq!(packets, [&commands[..1], &commands[1..]]);
-        assert!(pack(&[], b"").is_empty());
+    fn a_command_that_no_packet_takes_is_told() {
+        let one = || command(1, 0x01, 0);
+        for (bad, number) in [
+            (command(3, 0x95, 255), 43),
+            (command(1, 0xFC, 0), 42),
+            (command(6, 0x01, 0), 42),
+        ] {
+            let commands = [vec![one(); 300], vec![bad], vec![one()]].concat();
+            assert_eq!(pack(&commands, b""), Err(Refusal(number)));
+        }
+        assert_eq!(pack(&[one()], b"a*"), Err(Refusal(21)));
+        assert_eq!(pack(&[], b""), Ok(Vec::new()));
+    }
+
+    /// The reports of packets in turn.
+    fn reports(board: &mut ffi::Board, password: &[u8], packets: &[&[Command]]) -> Vec<Report> {
+        let mut reports = Vec::new();
+        for commands in packets {
+            let packet = ffi::write(ID, password, commands).expect("a request");
+            match ffi::packet(board, &packet) {
+                Answer::Silence => {}
+                Answer::Response(response) => {
+                    reports.extend(report::reports(&response).expect("reports"))
+                }
+                Answer::Refused(refusal) => panic!("{refusal}"),
+            }
+        }
+        reports
+    }
+
+    #[test]
+    fn joined_commands_report_and_leave_what_single_ones_do() {
+        let changes = [
+            command(2, 0x01, 1),
+            command(1, 0x0101, 0),
+            command(4, 0x63, 0),
+            command(3, 0x0400, 1),
+            command(4, 0x63, 0),
+            Command::new(3, 0x77, &[8, 1, 3, 21, 30, 8]),
+            command(5, 0x63, 0),
+            Command::new(3, 0x02, &[3]),
+        ];
+        let commands = [reads(), changes.to_vec(), reads()].concat();
+        for password in [&b""[..], b"1111", b"12345678"] {
+            let (mut one, mut other) = (board(password), board(password));
+            let single: Vec<&[Command]> = commands.chunks(1).collect();
+            let joined = pack(&commands, password).expect("packets");
+            assert!(joined.len() < 10 && single.len() == commands.len());
+            assert_eq!(
+                reports(&mut one, password, &joined),
+                reports(&mut other, password, &single)
+            );
+            assert!(one == other && one != board(password));
+        }
     }
 
     /// The sizes at which a request, or a response, has 256 bytes.

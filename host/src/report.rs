@@ -95,7 +95,7 @@ mod tests {
         };
         let mut commands = questions::reads(&["all"]).expect("all rows");
         commands.push(questions::read(0x0101));
-        for commands in packing::pack(&commands, b"") {
+        for commands in packing::pack(&commands, b"").expect("packets") {
             let request = ffi::write(id, b"", commands).expect("a request");
             let ffi::Answer::Response(response) = ffi::packet(&mut board, &request) else {
                 panic!("no response");

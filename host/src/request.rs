@@ -46,7 +46,9 @@ impl Request {
 
     /// Whether the request can be sent as it is meant; if not, why.
     pub fn check(&self) -> Result<(), String> {
-        let packets = |unit: &Unit| packing::pack(&self.commands, &unit.password).len();
+        let packets = |unit: &Unit| {
+            packing::pack(&self.commands, &unit.password).map_or(0, |packets| packets.len())
+        };
         let fits = |unit: &Unit| packing::fits(&self.commands, &unit.password);
         if self.is_change() && !self.units.iter().all(fits) {
             return Err(String::from(

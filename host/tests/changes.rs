@@ -129,13 +129,7 @@ fn changes_that_do_not_fit_are_refused_and_not_sent() {
     ] {
         failed(&asked(&host, command, &words), 2, "do not fit one packet");
     }
-    silent
-        .set_nonblocking(true)
-        .expect("a socket that does not wait");
-    assert!(
-        silent.recv_from(&mut [0; 256]).is_err(),
-        "something was sent"
-    );
+    assert_nothing_came(&silent);
     let board = Board::client();
     let words = vec!["0x0001=2"; 114];
     assert_eq!(board.listed("set", &words).lines().count(), 115);

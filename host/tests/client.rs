@@ -234,6 +234,46 @@ fn requests_that_cannot_be_written_are_refused() {
     );
 }
 
+/// Also where others could be sent before it.
+#[test]
+fn a_number_that_no_packet_takes_is_refused_before_anything_is_sent() {
+    let silent = open_socket();
+    let host = silent.local_addr().expect("an address").to_string();
+    for words in [&["all", "0x00FF"][..], &["0x00FF", "all"]] {
+        failed(
+            &asked(&host, "get", words),
+            1,
+            "the request is refused 42 (",
+        );
+    }
+    assert_nothing_came(&silent);
+}
+
+/// One packet for what would be many, and the same lines.
+#[test]
+fn get_joins_what_fits_and_lists_the_same() {
+    let board = Board::client();
+    let words = [
+        "unit-on-off",
+        "0x0101",
+        "0x0402",
+        "0063",
+        "wifi-name",
+        "0x0001",
+    ];
+    let single: Vec<String> = words.map(|word| board.listed("get", &[word])).to_vec();
+    for _ in words {
+        board.line();
+    }
+    let joined = board.listed("get", &words);
+    let lines = single.iter().flat_map(|listing| listing.lines().skip(1));
+    assert_eq!(
+        joined.lines().skip(1).collect::<Vec<_>>(),
+        lines.collect::<Vec<_>>()
+    );
+    assert!(board.line().ends_with(": 40 bytes: response of 49 bytes"));
+}
+
 #[test]
 fn bad_arguments_are_one_line() {
     let host = ["--host", NOBODY, "--id", ID, "--password", PASSWORD];

@@ -180,6 +180,13 @@ pub fn open_socket() -> UdpSocket {
     socket
 }
 
+pub fn assert_nothing_came(socket: &UdpSocket) {
+    let waits = socket.set_nonblocking(true);
+    waits.expect("a socket that does not wait");
+    let came = socket.recv_from(&mut [0; 256]);
+    assert!(came.is_err(), "something was sent");
+}
+
 /// Runs a command of the client against a socket that answers the first request with these packets.
 pub fn answered(packets: &[Vec<u8>], command: &str, more: &[&str]) -> Output {
     let (output, _) = served(
