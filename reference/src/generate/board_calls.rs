@@ -291,14 +291,19 @@ impl Generator {
         self.read_response_sometimes(&packet, response);
     }
 
-    /// A measurement, then a read of its row.
-    pub fn measurement(&mut self) {
+    /// A row that is read only.
+    pub fn measured_row(&mut self) -> u16 {
         let measured: Vec<u16> = rows::all()
             .values()
             .filter(|row| row.access == Access::ReadOnly)
             .map(|row| row.number)
             .collect();
-        let row = self.random.pick(&measured);
+        self.random.pick(&measured)
+    }
+
+    /// A measurement, then a read of its row.
+    pub fn measurement(&mut self) {
+        let row = self.measured_row();
         let any = values::number(&mut self.random);
         let number = self
             .random

@@ -6,7 +6,6 @@ use crate::call::Call;
 use crate::hex;
 use crate::packet;
 use crate::record::{ACCESS_POINT, CLIENT};
-use crate::rows::{self, Access};
 
 /// A board's identity, with which its packets are written.
 struct Identity {
@@ -84,12 +83,7 @@ impl Generator {
     }
 
     fn sound_measurement(&mut self) -> Call {
-        let measured: Vec<u16> = rows::all()
-            .values()
-            .filter(|row| row.access == Access::ReadOnly)
-            .map(|row| row.number)
-            .collect();
-        let number = self.random.pick(&measured);
+        let number = self.measured_row();
         let value = values::value(&mut self.random, number);
         Call::Measure { number, value }
     }
