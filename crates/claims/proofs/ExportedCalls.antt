@@ -50,7 +50,7 @@ exported-requests-agree given reply after contract zero board buffer =
     requests-agree given (Length (reply .length)) after (reply .length) (written given contract zero) refl board buffer
 
 -- a reply with a length is a response
-responded : (a : Answer) {reply : Reply} → reply ≡ replyOf a → 1 ≤ reply .length → a ≡ answer.Response (reply .length)
+pub responded : (a : Answer) {reply : Reply} → reply ≡ replyOf a → 1 ≤ reply .length → a ≡ answer.Response (reply .length)
 responded (answer.Refused number) e long = absurd (omega (arith, ap (λ (r : Reply). r .length) e))
 responded answer.Silence e long = absurd (omega (arith, ap (λ (r : Reply). r .length) e))
 responded (answer.Response size) e long = ap (λ (r : Reply). answer.Response (r .length)) (sym e)

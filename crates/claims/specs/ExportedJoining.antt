@@ -1,17 +1,20 @@
 -- Joining packets for the exported calls: `udgornwy_packet`, `udgornwy_write` and `udgornwy_list`. All that is known of a call is its contract.
 use Prim.Native.Nat.{ℕ, _≤_}
 use mathlib.Core.List.{List, [], _++_}
+use mathlib.Core.Option.{some}
 use mathlib.Core.Path.{_≡_}
 use lib.ListN.{length, take}
+use Rattle.block.specs.Command.{Command, Report}
 use Rattle.model.specs.Step.{Call, call}
 use Rattle.model.specs.declared.Board.{Board}
-use Rattle.tool.specs.Listing.{header, listing}
+use Rattle.tool.specs.Listing.{reportLines, header, listing}
 use Rattle.tool.specs.Request.{WriteCall}
+use Rattle.tool.specs.Response.{reportsOf}
 use Rattle.firmware.specs.Client.{WritesInNumbers, ListsInNumbers}
 use Rattle.firmware.specs.Controller.{Replies}
 use Rattle.firmware.specs.declared.Reply.{Reply}
 use Rattle.claims.specs.ExportedAgreement.{Shown}
-use Rattle.claims.specs.Joining.{InTurn, BothFit, JoinedCall}
+use Rattle.claims.specs.Joining.{InTurn, BothFit, AsksFor}
 
 -- the record, the reply and the buffer that `udgornwy_packet` left
 pub record Called (c : Call) : Type 0 where
@@ -20,31 +23,39 @@ pub record Called (c : Call) : Type 0 where
   pub after : List ℕ
   pub contract : Replies c next reply after
 
--- the lines that `udgornwy_list` writes of an answer, in a buffer as long as the longest listing; none of silence
-pub record Listed {c : Call} (called : Called c) (lines : List ℕ) : Type 0 where
-  pub silence : called .reply .refusal ≡ 0 → called .reply .length ≡ 0 → lines ≡ []
-  pub response :
-      1 ≤ called .reply .length → (listed : Reply) (text shown : List ℕ)
-      → ListsInNumbers (listing (take (called .reply .length) (called .after))) text listed shown → 1753 ≤ length text
-      → Shown (header ++ lines) listed text shown
+-- the response
+abbrev pub sentBack : {c : Call} → Called c → List ℕ
+sentBack called = take (called .reply .length) (called .after)
 
-pub record CallsJoin {first second joined : Call} (one : Called first) (two : Called second) (both : Called joined) : Type 0 where
+-- the reports that stand in it; none in silence
+pub record Reported {c : Call} (called : Called c) (reports : List Report) : Type 0 where
+  pub silence : called .reply .length ≡ 0 → reports ≡ []
+  pub response : 1 ≤ called .reply .length → reportsOf (sentBack called) ≡ some reports
+
+-- the lines that `udgornwy_list` writes of it after the header, in a buffer as long as the longest listing
+abbrev pub Listed : {c : Call} → Called c → List ℕ → Type 0
+Listed called lines =
+    1 ≤ called .reply .length → (listed : Reply) (text shown : List ℕ) → ListsInNumbers (listing (sentBack called)) text listed shown
+    → 1753 ≤ length text → Shown (header ++ lines) listed text shown
+
+pub record CallsJoin {first second joined : Call} (one : Called first) (two : Called second) (both : Called joined) (reports more : List Report) : Type 0 where
   pub accepted : both .reply .refusal ≡ 0
   pub board : both .next ≡ two .next
-  pub earlier : List ℕ
-  pub later : List ℕ
-  pub of-first : Listed one earlier
-  pub of-second : Listed two later
-  pub of-both : Listed both (earlier ++ later)
+  pub reported : Reported both (reports ++ more)
+  pub first-listed : Listed one (reportLines reports)
+  pub second-listed : Listed two (reportLines more)
+  pub both-listed : Listed both (reportLines reports ++ reportLines more)
 
-pub record ExportedWrittenJoins {first second : Call} (one : Called first) (two : Called second) (reply : Reply) (written : List ℕ) : Type 0 where
+pub record ExportedWrittenJoins {first second : Call} (one : Called first) (two : Called second) (reports more : List Report) (reply : Reply) (written : List ℕ) : Type 0 where
   pub taken : reply .refusal ≡ 0
   pub joins :
-      (buffer : List ℕ) → 256 ≤ length buffer → (both : Called (call (first .board) (take (reply .length) written) buffer)) → CallsJoin one two both
+      (buffer : List ℕ) → 256 ≤ length buffer → (both : Called (call (first .board) (take (reply .length) written) buffer))
+      → CallsJoin one two both reports more
 
 abbrev pub ExportedPacketsJoin : Type 0
 ExportedPacketsJoin =
-    (first second : Call) (one : Called first) (two : Called second) → InTurn first second (one .next)
-    → one .reply .refusal ≡ 0 → two .reply .refusal ≡ 0 → BothFit first second
-    → (given : WriteCall) → JoinedCall first second given → (reply : Reply) (written : List ℕ) → WritesInNumbers given reply written
-    → ExportedWrittenJoins one two reply written
+    (first second : Call) (earlier later : List Command) (one : Called first) (two : Called second)
+    → InTurn first second earlier later (one .next) → one .reply .refusal ≡ 0 → two .reply .refusal ≡ 0
+    → (reports more : List Report) → Reported one reports → Reported two more → BothFit (first .board) (earlier ++ later) (reports ++ more)
+    → (given : WriteCall) → AsksFor (first .board) (earlier ++ later) given → (reply : Reply) (written : List ℕ) → WritesInNumbers given reply written
+    → ExportedWrittenJoins one two reports more reply written

@@ -1,4 +1,5 @@
--- Joining packets: two packets for a board, one after the other, and the tool's packet of both command lists in their place.
+-- Joining packets: two packets for a board, one after the other, and the tool's packet of both command lists in their place. What the packets
+-- ask is said by block's `commands`, and what the board told by the tool's reading of it.
 use Prim.Native.Nat.{ℕ, _≤_}
 use mathlib.Core.Bool.{true}
 use mathlib.Core.List.{List, [], _++_}
@@ -7,83 +8,79 @@ use mathlib.Core.Option.{none, some}
 use mathlib.Core.Path.{_≡_}
 use lib.ListN.{length, take}
 use Rattle.framing.specs.Frame.{Frame, frame, packetOf, packetLength}
+use Rattle.framing.specs.Packet.{frameOf}
 use Rattle.block.specs.Command.{Command, Report}
 use Rattle.block.specs.Encoding.{encodeReports}
+use Rattle.model.specs.Changes.{Asks}
 use Rattle.model.specs.Record.{passwordOf}
 use Rattle.model.specs.Refusals.{Silent, Responds}
-use Rattle.model.specs.Step.{Call, call, request, commandsOf, reportsOf, stepRefusal, step, Steps}
+use Rattle.model.specs.Step.{Call, call, request, reportsOf, stepRefusal, step, Steps}
 use Rattle.model.specs.declared.Answer.{Answer}
 use Rattle.model.specs.declared.Answer.the-variants.{Refused, Silence, Response}
 use Rattle.model.specs.declared.Board.{Board}
 use Rattle.model.specs.declared.Stepped.{Stepped}
 use Rattle.tool.specs.CommandList.{describesList, functionsOf, numbersOf, lengthsOf, valuesOf}
-use Rattle.tool.specs.Request.{WriteCall, writeCall, requestFrame, Writes}
-use Rattle.tool.specs.Request as tool
+use Rattle.tool.specs.Request.{WriteCall, writeCall, commandsOf, requestFrame, Writes}
 use Rattle.tool.specs.Response as read
 use Rattle.tool.specs.declared.request.Written.{Written}
 use Rattle.tool.specs.declared.request.Written.the-variants.{Length}
 
--- a packet that bears the board's own ID and its password; of an accepted one the first gives the second (8)
-pub record Own (c : Call) : Type 0 where
-  pub id : request c .frame .id ≡ c .board .id
-  pub password : request c .frame .password ≡ passwordOf (c .board)
+-- a packet that bears the board's own ID and its password, and asks for these commands; of an accepted one the ID gives the password (8)
+pub record Own (c : Call) (commands : List Command) : Type 0 where
+  pub id : frameOf (c .packet) .id ≡ c .board .id
+  pub password : frameOf (c .packet) .password ≡ passwordOf (c .board)
+  pub asks : Asks c commands
 
 -- two of them with no call between: the second is for the record that the first left
-pub record InTurn (first second : Call) (left : Board) : Type 0 where
-  pub one : Own first
-  pub two : Own second
+pub record InTurn (first second : Call) (earlier later : List Command) (left : Board) : Type 0 where
+  pub one : Own first earlier
+  pub two : Own second later
   pub next : second .board ≡ left
 
--- the two command lists joined, and the two lists of reports
-abbrev pub bothCommands : Call → Call → List Command
-bothCommands first second = commandsOf (request first) ++ commandsOf (request second)
+-- the tool's packet of commands for a board, and the response with reports
+abbrev pub requestWith : Board → List Command → Frame
+requestWith board commands = requestFrame (board .id) (passwordOf board) commands
 
-abbrev pub bothReports : Call → Call → List Report
-bothReports first second = reportsOf (request first) ++ reportsOf (request second)
-
--- the tool's packet of the joined commands, and its response
-abbrev pub joinedRequest : Call → Call → Frame
-joinedRequest first second = requestFrame (first .board .id) (passwordOf (first .board)) (bothCommands first second)
-
-abbrev pub joinedResponse : Call → Call → Frame
-joinedResponse first second = frame (first .board .id) (passwordOf (first .board)) 0x06 (encodeReports 0 (bothReports first second))
+abbrev pub responseWith : Board → List Report → Frame
+responseWith board reports = frame (board .id) (passwordOf board) 0x06 (encodeReports 0 reports)
 
 -- both fit
-pub record BothFit (first second : Call) : Type 0 where
-  pub packet : packetLength (joinedRequest first second) ≤ 256
-  pub answer : packetLength (joinedResponse first second) ≤ 256
+pub record BothFit (board : Board) (commands : List Command) (reports : List Report) : Type 0 where
+  pub packet : packetLength (requestWith board commands) ≤ 256
+  pub answer : packetLength (responseWith board reports) ≤ 256
 
 -- one packet in the place of two: it is answered, ends in the same record and reports both lists
 pub record PacketJoins (first second joined : Call) : Type 0 where
   pub answered : Silent joined ⊎ Responds joined
   pub board : step joined .board ≡ step second .board
-  pub reports : reportsOf (request joined) ≡ bothReports first second
+  pub reports : reportsOf (request joined) ≡ reportsOf (request first) ++ reportsOf (request second)
 
 abbrev pub PacketsJoin : Type 0
 PacketsJoin =
-    (first second : Call) → InTurn first second (step first .board) → stepRefusal first ≡ none → stepRefusal second ≡ none → BothFit first second
-    → (buffer : List ℕ) → 256 ≤ length buffer → PacketJoins first second (call (first .board) (packetOf (joinedRequest first second)) buffer)
+    (first second : Call) (earlier later : List Command) → InTurn first second earlier later (step first .board)
+    → stepRefusal first ≡ none → stepRefusal second ≡ none
+    → BothFit (first .board) (earlier ++ later) (reportsOf (request first) ++ reportsOf (request second))
+    → (buffer : List ℕ) → 256 ≤ length buffer → PacketJoins first second (call (first .board) (packetOf (requestWith (first .board) (earlier ++ later))) buffer)
 
--- a call of the tool's `write` for the joined commands, with the board's ID and password and a buffer of 256 bytes or more
-pub record JoinedCall (first second : Call) (given : WriteCall) : Type 0 where
-  pub id : given .id ≡ first .board .id
-  pub password : given .password ≡ passwordOf (first .board)
+-- a call of the tool's `write` for commands, with the board's ID and password and a buffer of 256 bytes or more
+pub record AsksFor (board : Board) (commands : List Command) (given : WriteCall) : Type 0 where
+  pub id : given .id ≡ board .id
+  pub password : given .password ≡ passwordOf board
   pub described : describesList (given .functions) (given .numbers) (given .lengths) (given .values) ≡ true
-  pub commands : tool.commandsOf given ≡ bothCommands first second
+  pub listed : commandsOf given ≡ commands
   pub room : 256 ≤ length (given .buffer)
 
-abbrev pub callFor : Call → Call → List ℕ → WriteCall
-callFor first second buffer =
-    let commands = bothCommands first second in
-    writeCall buffer (first .board .id) (passwordOf (first .board)) (functionsOf commands) (numbersOf commands) (lengthsOf commands) (valuesOf commands)
+-- there is one for the commands of every two packets that are accepted
+abbrev pub callFor : List ℕ → Board → List Command → WriteCall
+callFor buffer board commands =
+    writeCall buffer (board .id) (passwordOf board) (functionsOf commands) (numbersOf commands) (lengthsOf commands) (valuesOf commands)
 
--- there is one for every two packets that are accepted
 abbrev pub JoinedCalls : Type 0
 JoinedCalls =
-    (first second : Call) → stepRefusal first ≡ none → stepRefusal second ≡ none → (buffer : List ℕ) → 256 ≤ length buffer
-    → JoinedCall first second (callFor first second buffer)
+    (first second : Call) (earlier later : List Command) → Asks first earlier → Asks second later → stepRefusal first ≡ none → stepRefusal second ≡ none
+    → (buffer : List ℕ) → 256 ≤ length buffer → AsksFor (first .board) (earlier ++ later) (callFor buffer (first .board) (earlier ++ later))
 
--- The same of the code: all that is known of a call of `write` or of `packet` is its contract.
+-- The same of the code: all that is known of a call of `packet` or of `write` is its contract.
 pub record Stepping (c : Call) : Type 0 where
   pub result : Stepped
   pub after : List ℕ
@@ -97,24 +94,25 @@ pub record Told {c : Call} (made : Stepping c) (reports : List Report) : Type 0 
   pub silence : made .result .answer ≡ Silence → reports ≡ []
   pub response : (size : ℕ) → made .result .answer ≡ Response size → read.reportsOf (take size (made .after)) ≡ some reports
 
-pub record AnswersJoin {first second joined : Call} (one : Stepping first) (two : Stepping second) (both : Stepping joined) : Type 0 where
+-- there are such reports
+abbrev pub AnswersTold : Type 0
+AnswersTold = (c : Call) (made : Stepping c) → (reports : List Report) × Told made reports
+
+pub record AnswersJoin {second joined : Call} (two : Stepping second) (both : Stepping joined) (reports : List Report) : Type 0 where
   pub accepted : Accepted (both .result .answer)
   pub board : both .result .board ≡ two .result .board
-  pub earlier : List Report
-  pub later : List Report
-  pub of-first : Told one earlier
-  pub of-second : Told two later
-  pub of-both : Told both (earlier ++ later)
+  pub told : Told both reports
 
 -- the writer takes the joined commands, and what it wrote stands in the place of both packets
-pub record WrittenJoins {first second : Call} (one : Stepping first) (two : Stepping second) (answer : Written) (written : List ℕ) : Type 0 where
+pub record WrittenJoins {second : Call} (board : Board) (two : Stepping second) (reports : List Report) (answer : Written) (written : List ℕ) : Type 0 where
   pub size : ℕ
   pub taken : answer ≡ Length size
-  pub joins : (buffer : List ℕ) → 256 ≤ length buffer → (both : Stepping (call (first .board) (take size written) buffer)) → AnswersJoin one two both
+  pub joins : (buffer : List ℕ) → 256 ≤ length buffer → (both : Stepping (call board (take size written) buffer)) → AnswersJoin two both reports
 
 abbrev pub ContractsJoin : Type 0
 ContractsJoin =
-    (first second : Call) (one : Stepping first) (two : Stepping second) → InTurn first second (one .result .board)
-    → Accepted (one .result .answer) → Accepted (two .result .answer) → BothFit first second
-    → (given : WriteCall) → JoinedCall first second given → (answer : Written) (written : List ℕ) → Writes given answer written
-    → WrittenJoins one two answer written
+    (first second : Call) (earlier later : List Command) (one : Stepping first) (two : Stepping second)
+    → InTurn first second earlier later (one .result .board) → Accepted (one .result .answer) → Accepted (two .result .answer)
+    → (reports more : List Report) → Told one reports → Told two more → BothFit (first .board) (earlier ++ later) (reports ++ more)
+    → (given : WriteCall) → AsksFor (first .board) (earlier ++ later) given → (answer : Written) (written : List ℕ) → Writes given answer written
+    → WrittenJoins (first .board) two (reports ++ more) answer written

@@ -395,7 +395,7 @@ module _ (p : Parameters) (before : List Command) (command : Command) (remaining
       ∙ entry-stored day period is-day is-period (run p before) command sized-before stored
 
 -- the model's reading of a packet's commands
-asked : (c : Call) (cs : List Command) → Asks c cs → commandsOf (request c) ≡ cs
+pub asked : (c : Call) (cs : List Command) → Asks c cs → commandsOf (request c) ≡ cs
 asked c cs e = ap (λ (o : Option (List Command)). Option·getD o []) e
 
 pub no-discovery : (c : Call) → (c .board .mode ≡ 1 → frameOf (c .packet) .id ≡ defaultId → ⊥) → isDiscovery (request c) ≡ false
