@@ -100,6 +100,7 @@ exported-packets-join first second earlier later one two turn zero zero-too repo
           let zero-again : both .reply .refusal ≡ 0 = ap (λ (r : Reply). r .refusal) (both .contract .answer) ∙ answered-zero (joins .answered) in
           let of-both : reports ++ more ≡ reportsOf (request (call (first .board) (take (reply .length) written) buffer)) = (λ i. of-first i ++ of-second i) ∙ sym (joins .reports) in
           record {
+            own = joins .own;
             accepted = zero-again;
             board = both .contract .board ∙ joins .board ∙ sym (two .contract .board);
             reported = subst (Reported both) (sym of-both) (reports-told both zero-again);

@@ -145,7 +145,7 @@ module _
 
         pub packet-joins :
             {answer : Written} {written : List ℕ} {size : ℕ} → Writes given answer written → answer ≡ Length size
-            → (buffer : List ℕ) → 256 ≤ length buffer → PacketJoins first second (call (first .board) (take size written) buffer)
+            → (buffer : List ℕ) → 256 ≤ length buffer → PacketJoins first second (call (first .board) (take size written) buffer) (earlier ++ later)
         packet-joins {answer} {written} {size} writes told buffer room =
             let packet : List ℕ = take size written in
             let sent : RequestRead given (call (first .board) packet buffer) = requests-agree given answer written size writes told (first .board) buffer in
@@ -157,6 +157,7 @@ module _
             let answered : Silent (call (first .board) packet buffer) ⊎ Responds (call (first .board) packet buffer) =
             sent .answered sound-first (asks .password) (inl (asks .id)) room (subst (λ (f : Frame). packetLength f ≤ 256) (sym same-response) (fit .answer)) in
             record {
+              own = record { id = own; password = sent .password ∙ asks .password; asks = both };
               answered = answered;
               board = board-joined packet buffer own both (answered-none (call (first .board) packet buffer) answered);
               reports = reports;
@@ -169,7 +170,7 @@ packets-join first second earlier later turn accepted also fit buffer room =
     joined-calls first second earlier later (turn .one .asks) (turn .two .asks) accepted also (replicate 256 0) (omega (arith, length-replicate {A = ℕ} 256 0)) in
     let writes : Writes given (writtenAs (writeRefusal given) given) (bufferAs (writeRefusal given) given) = record { answered = refl; held = refl } in
     let told = length-told first second earlier later turn accepted also fit given asks writes in
-    subst (λ (packet : List ℕ). PacketJoins first second (call (first .board) packet buffer))
+    subst (λ (packet : List ℕ). PacketJoins first second (call (first .board) packet buffer) (earlier ++ later))
     (packet-sent given writes told .packet-written ∙ ap packetOf (frame-asked first second earlier later turn accepted also fit given asks))
     (packet-joins first second earlier later turn accepted also fit given asks writes told buffer room)
 
@@ -222,6 +223,7 @@ contracts-join first second earlier later one two turn taken taken-too reports m
       joins = λ buffer room both.
           let joins = packet-joins first second earlier later left-first accepted also fits given asks writes told-length buffer room in
           record {
+            own = joins .own;
             accepted = λ number e. never-both (answered-none _ (joins .answered)) (refusal-number _ (sym (both .contract .answer) ∙ e));
             board = both .contract .board ∙ joins .board ∙ sym (two .contract .board);
             told = subst (Told both) (joins .reports ∙ sym same-reports) (told both);

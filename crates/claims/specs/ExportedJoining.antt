@@ -14,7 +14,7 @@ use Rattle.firmware.specs.Client.{WritesInNumbers, ListsInNumbers}
 use Rattle.firmware.specs.Controller.{Replies}
 use Rattle.firmware.specs.declared.Reply.{Reply}
 use Rattle.claims.specs.ExportedAgreement.{Shown}
-use Rattle.claims.specs.Joining.{InTurn, BothFit, AsksFor}
+use Rattle.claims.specs.Joining.{Own, InTurn, BothFit, AsksFor}
 
 -- the record, the reply and the buffer that `udgornwy_packet` left
 pub record Called (c : Call) : Type 0 where
@@ -38,7 +38,8 @@ Listed called lines =
     1 ≤ called .reply .length → (listed : Reply) (text shown : List ℕ) → ListsInNumbers (listing (sentBack called)) text listed shown
     → 1753 ≤ length text → Shown (header ++ lines) listed text shown
 
-pub record CallsJoin {first second joined : Call} (one : Called first) (two : Called second) (both : Called joined) (reports more : List Report) : Type 0 where
+pub record CallsJoin {first second joined : Call} (one : Called first) (two : Called second) (both : Called joined) (commands : List Command) (reports more : List Report) : Type 0 where
+  pub own : Own joined commands
   pub accepted : both .reply .refusal ≡ 0
   pub board : both .next ≡ two .next
   pub reported : Reported both (reports ++ more)
@@ -46,11 +47,11 @@ pub record CallsJoin {first second joined : Call} (one : Called first) (two : Ca
   pub second-listed : Listed two (reportLines more)
   pub both-listed : Listed both (reportLines reports ++ reportLines more)
 
-pub record ExportedWrittenJoins {first second : Call} (one : Called first) (two : Called second) (reports more : List Report) (reply : Reply) (written : List ℕ) : Type 0 where
+pub record ExportedWrittenJoins {first second : Call} (one : Called first) (two : Called second) (commands : List Command) (reports more : List Report) (reply : Reply) (written : List ℕ) : Type 0 where
   pub taken : reply .refusal ≡ 0
   pub joins :
       (buffer : List ℕ) → 256 ≤ length buffer → (both : Called (call (first .board) (take (reply .length) written) buffer))
-      → CallsJoin one two both reports more
+      → CallsJoin one two both commands reports more
 
 abbrev pub ExportedPacketsJoin : Type 0
 ExportedPacketsJoin =
@@ -58,4 +59,4 @@ ExportedPacketsJoin =
     → InTurn first second earlier later (one .next) → one .reply .refusal ≡ 0 → two .reply .refusal ≡ 0
     → (reports more : List Report) → Reported one reports → Reported two more → BothFit (first .board) (earlier ++ later) (reports ++ more)
     → (given : WriteCall) → AsksFor (first .board) (earlier ++ later) given → (reply : Reply) (written : List ℕ) → WritesInNumbers given reply written
-    → ExportedWrittenJoins one two reports more reply written
+    → ExportedWrittenJoins one two (earlier ++ later) reports more reply written

@@ -49,8 +49,9 @@ pub record BothFit (board : Board) (commands : List Command) (reports : List Rep
   pub packet : packetLength (requestWith board commands) ≤ 256
   pub answer : packetLength (responseWith board reports) ≤ 256
 
--- one packet in the place of two: it is answered, ends in the same record and reports both lists
-pub record PacketJoins (first second joined : Call) : Type 0 where
+-- one packet in the place of two: it is answered, ends in the same record and reports both lists; it is again one that can be joined
+pub record PacketJoins (first second joined : Call) (commands : List Command) : Type 0 where
+  pub own : Own joined commands
   pub answered : Silent joined ⊎ Responds joined
   pub board : step joined .board ≡ step second .board
   pub reports : reportsOf (request joined) ≡ reportsOf (request first) ++ reportsOf (request second)
@@ -60,7 +61,8 @@ PacketsJoin =
     (first second : Call) (earlier later : List Command) → InTurn first second earlier later (step first .board)
     → stepRefusal first ≡ none → stepRefusal second ≡ none
     → BothFit (first .board) (earlier ++ later) (reportsOf (request first) ++ reportsOf (request second))
-    → (buffer : List ℕ) → 256 ≤ length buffer → PacketJoins first second (call (first .board) (packetOf (requestWith (first .board) (earlier ++ later))) buffer)
+    → (buffer : List ℕ) → 256 ≤ length buffer
+    → PacketJoins first second (call (first .board) (packetOf (requestWith (first .board) (earlier ++ later))) buffer) (earlier ++ later)
 
 -- a call of the tool's `write` for commands, with the board's ID and password and a buffer of 256 bytes or more
 pub record AsksFor (board : Board) (commands : List Command) (given : WriteCall) : Type 0 where
@@ -98,16 +100,18 @@ pub record Told {c : Call} (made : Stepping c) (reports : List Report) : Type 0 
 abbrev pub AnswersTold : Type 0
 AnswersTold = (c : Call) (made : Stepping c) → (reports : List Report) × Told made reports
 
-pub record AnswersJoin {second joined : Call} (two : Stepping second) (both : Stepping joined) (reports : List Report) : Type 0 where
+pub record AnswersJoin {second joined : Call} (two : Stepping second) (both : Stepping joined) (commands : List Command) (reports : List Report) : Type 0 where
+  pub own : Own joined commands
   pub accepted : Accepted (both .result .answer)
   pub board : both .result .board ≡ two .result .board
   pub told : Told both reports
 
 -- the writer takes the joined commands, and what it wrote stands in the place of both packets
-pub record WrittenJoins {second : Call} (board : Board) (two : Stepping second) (reports : List Report) (answer : Written) (written : List ℕ) : Type 0 where
+pub record WrittenJoins {second : Call} (board : Board) (two : Stepping second) (commands : List Command) (reports : List Report) (answer : Written) (written : List ℕ) : Type 0 where
   pub size : ℕ
   pub taken : answer ≡ Length size
-  pub joins : (buffer : List ℕ) → 256 ≤ length buffer → (both : Stepping (call board (take size written) buffer)) → AnswersJoin two both reports
+  pub joins :
+      (buffer : List ℕ) → 256 ≤ length buffer → (both : Stepping (call board (take size written) buffer)) → AnswersJoin two both commands reports
 
 abbrev pub ContractsJoin : Type 0
 ContractsJoin =
@@ -115,4 +119,4 @@ ContractsJoin =
     → InTurn first second earlier later (one .result .board) → Accepted (one .result .answer) → Accepted (two .result .answer)
     → (reports more : List Report) → Told one reports → Told two more → BothFit (first .board) (earlier ++ later) (reports ++ more)
     → (given : WriteCall) → AsksFor (first .board) (earlier ++ later) given → (answer : Written) (written : List ℕ) → Writes given answer written
-    → WrittenJoins (first .board) two (reports ++ more) answer written
+    → WrittenJoins (first .board) two (earlier ++ later) (reports ++ more) answer written
