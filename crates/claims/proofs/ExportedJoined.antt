@@ -27,7 +27,7 @@ use Rattle.firmware.specs.Reply.{replyWith}
 use Rattle.firmware.specs.declared.Reply.{Reply}
 use Rattle.firmware.proofs.Exported.{exports-follow}
 use Rattle.claims.specs.ExportedAgreement.{Shown}
-use Rattle.claims.specs.ExportedJoining.{Called, Reported, Listed, ExportedPacketsJoin}
+use Rattle.claims.specs.ExportedJoining.{Called, Reported, RepliesReported, Listed, ExportedPacketsJoin}
 use Rattle.claims.specs.Joining.{InTurn, BothFit}
 use Rattle.claims.proofs.ExportedCalls.{responded, exported-responses-agree}
 use Rattle.claims.proofs.Joined.{packet-joins, length-told}
@@ -79,6 +79,9 @@ module _ {c : Call} (called : Called c) (zero : called .reply .refusal ≡ 0) wh
   listed-as lines e long listed text shown lists room =
       subst (λ (l : List ℕ). Shown (header ++ l) listed text shown) (sym e)
       (exported-responses-agree c (called .next) (called .reply) (called .after) (called .contract) long .listed listed text shown lists room)
+
+pub replies-reported : RepliesReported
+replies-reported c called zero = (reportsOf (request c), reports-told called zero)
 
 pub exported-packets-join : ExportedPacketsJoin
 exported-packets-join first second earlier later one two turn zero zero-too reports more tells tells-too fit given asks reply written writes =

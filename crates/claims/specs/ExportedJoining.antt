@@ -32,6 +32,10 @@ pub record Reported {c : Call} (called : Called c) (reports : List Report) : Typ
   pub silence : called .reply .length ≡ 0 → reports ≡ []
   pub response : 1 ≤ called .reply .length → reportsOf (sentBack called) ≡ some reports
 
+-- there are such reports
+abbrev pub RepliesReported : Type 0
+RepliesReported = (c : Call) (called : Called c) → called .reply .refusal ≡ 0 → (reports : List Report) × Reported called reports
+
 -- the lines that `udgornwy_list` writes of it after the header, in a buffer as long as the longest listing
 abbrev pub Listed : {c : Call} → Called c → List ℕ → Type 0
 Listed called lines =
