@@ -4,115 +4,129 @@ use native.Mathlib.Omega.{arith}
 use mathlib.Core.Bool.{true}
 use mathlib.Core.List.{List, [], _∷_, _++_, append-assoc}
 use mathlib.Core.Logic.{_⊎_, inl, inr}
-use mathlib.Core.Option.{none, some}
 use mathlib.Core.Path.{_≡_, refl, sym, ap, subst, _∙_}
 use borrow.Author.Tests.{ltb-true}
 use lib.Dec.{ltb}
-use lib.ListN.{length, take}
-use Rattle.framing.specs.Frame.{packetOf}
+use lib.ListN.{take}
 use Rattle.framing.specs.Packet.{packetRefusals}
 use Rattle.framing.proofs.Writing.{length-packet}
 use Rattle.block.specs.Command.{Report}
 use Rattle.block.specs.Encoding.{every}
 use Rattle.model.specs.Refusals.{Silent, Responds}
-use Rattle.model.specs.Step.{Call, call, request, reportsOf, response, requestRefusals, stepRefusals, stepRefusal, step}
+use Rattle.model.specs.Step.{Call, call, request, response, requestRefusals, stepRefusals, stepRefusal, step}
 use Rattle.model.specs.declared.Answer.{Answer}
+use Rattle.model.specs.declared.Answer.the-variants.{Refused, Silence, Response}
 use Rattle.model.proofs.Refused.{refusal-number, none-refused, none-answered}
 use Rattle.tool.specs.Listing.{reportLine, reportLines, header}
-use Rattle.tool.specs.Request.{requestOf, writeRefusal, writtenAs, Writes}
-use Rattle.tool.specs.declared.request.Written.the-variants.{Length}
+use Rattle.tool.specs.Request.{writeRefusal, writtenAs}
+use Rattle.tool.specs.Response.{reportsOf}
 use Rattle.firmware.specs.Client.{writtenReply}
 use Rattle.firmware.specs.Controller.{replyOf}
+use Rattle.firmware.specs.Exported.{FromStep}
 use Rattle.firmware.specs.Reply.{replyWith}
 use Rattle.firmware.specs.declared.Reply.{Reply}
 use Rattle.firmware.proofs.Exported.{exports-follow}
 use Rattle.claims.specs.ExportedAgreement.{Shown}
-use Rattle.claims.specs.ExportedJoining.{Called, Reported, RepliesReported, Listed, ExportedPacketsJoin}
-use Rattle.claims.specs.Joining.{InTurn, BothFit}
+use Rattle.claims.specs.ExportedJoining.{PacketCalled, Reported, RepliesReported, Listed, ExportedPacketsJoin}
+use Rattle.claims.specs.Joining.{PacketMade, Accepted, Told, AnswersJoin, WrittenJoins}
 use Rattle.claims.proofs.ExportedCalls.{responded, exported-responses-agree}
-use Rattle.claims.proofs.Joined.{packet-joins, length-told}
+use Rattle.claims.proofs.Joined.{told-once, answers-told, contracts-join}
 use Rattle.claims.proofs.Numbers.{number-passes}
-use Rattle.claims.proofs.ResponsesRead.{responses-agree}
 
 lines-join : (reports more : List Report) → reportLines (reports ++ more) ≡ reportLines reports ++ reportLines more
 unfolding reportLines
 lines-join [] more = refl
 lines-join (report ∷ reports) more = ap (λ (lines : List ℕ). reportLine report ++ lines) (lines-join reports more) ∙ simp append-assoc
 
--- an accepted call: refusal 0
-module _ {c : Call} (called : Called c) (zero : called .reply .refusal ≡ 0) where
-  not-refused : stepRefusal c ≡ none
+-- an exported call as one of `packet`
+module _ {c : Call} (called : PacketCalled c) where
+  follows : FromStep c (called .next) (called .reply) (called .after)
+  follows = exports-follow .packet c (called .next) (called .reply) (called .after) (called .contract)
+
+  abbrev made : PacketMade c
+  made = record { result = follows .result; after = called .after; contract = follows .contract }
+
+  length-as : {answer : Answer} → follows .result .answer ≡ answer → called .reply .length ≡ replyOf answer .length
+  length-as e = ap (λ (r : Reply). r .length) (follows .answer ∙ ap replyOf e)
+
+  -- refusal 0 is no refusal
+  taken : called .reply .refusal ≡ 0 → Accepted (follows .result .answer)
   unfolding stepRefusal stepRefusals requestRefusals packetRefusals every
-  not-refused =
-      none-refused c
-      (λ number e.
-      let same : number ≡ 0 = sym (ap (λ (r : Reply). r .refusal) (called .contract .answer ∙ ap replyOf e)) ∙ zero in
-      let above : ltb 0 number ≡ true = number-passes (ltb 0) stepRefusals c refl (refusal-number c e) in
-      omega (arith, ltb-true 0 number above))
+  taken zero number e =
+      let same : number ≡ 0 = sym (ap (λ (r : Reply). r .refusal) (follows .answer ∙ ap replyOf e)) ∙ zero in
+      let above : ltb 0 number ≡ true = number-passes (ltb 0) stepRefusals c refl (refusal-number c (sym (follows .contract .answer) ∙ e)) in
+      omega (arith, ltb-true 0 number above)
 
-  -- silence has no length, a response one
-  by-length : {P : Type 0} → (reportsOf (request c) ≡ [] → called .reply .length ≡ 0 → P) → (1 ≤ called .reply .length → P) → P
-  by-length {P} silence response-sent = by-answer (none-answered c not-refused)
+  -- a response has a length
+  long : {size : ℕ} → follows .result .answer ≡ Response size → 1 ≤ size
+  long {size} e = by-answer (none-answered c (none-refused c (λ number k. let impossible : _≡_ {A = ℕ} 0 1 = cc (told, k) in omega arith)))
     where
-      by-answer : Silent c ⊎ Responds c → P
-      by-answer (inl silent) = silence (silent .reports) (ap (λ (r : Reply). r .length) (called .contract .answer ∙ ap replyOf (silent .answer)))
-      by-answer (inr responds) =
-          let told : called .reply .length ≡ responds .size = ap (λ (r : Reply). r .length) (called .contract .answer ∙ ap replyOf (responds .answer)) in
-          response-sent (omega (arith, told, responds .exact, length-packet (response (request c))))
+      told : step c .answer ≡ Response size
+      told = sym (follows .contract .answer) ∙ e
 
-  -- the reports are those of the packet, and no others
-  reports-told : Reported called (reportsOf (request c))
-  reports-told =
+      by-answer : Silent c ⊎ Responds c → 1 ≤ size
+      by-answer (inl silent) = let impossible : _≡_ {A = ℕ} 0 1 = cc (told, silent .answer) in absurd (omega arith)
+      by-answer (inr responds) =
+          let whole : size ≡ responds .size = cc (told, responds .answer) in
+          omega (arith, responds .exact, length-packet (response (request c)))
+
+  tells : {reports : List Report} → Reported called reports → Told made reports
+  tells found =
       record {
-        silence = λ none-long. by-length (λ none-reported e. none-reported) (λ long. absurd (omega arith));
-        response = λ long.
-            let follows = exports-follow .packet c (called .next) (called .reply) (called .after) (called .contract) in
-            responses-agree c (follows .result) (called .after) (called .reply .length) (follows .contract) (responded (follows .result .answer) (follows .answer) long) .reports;
+        silence = λ e. found .silence (length-as e);
+        response = λ size e.
+            ap (λ (n : ℕ). reportsOf (take n (called .after))) (sym (length-as e)) ∙ found .response (omega (arith, long e, length-as e));
       }
 
-  told-once : (reports : List Report) → Reported called reports → reports ≡ reportsOf (request c)
-  told-once reports tells =
-      by-length (λ none-reported e. tells .silence e ∙ sym none-reported)
-      (λ long. let same-reports : some reports ≡ some (reportsOf (request c)) = sym (tells .response long) ∙ reports-told .response long in cc)
+  module _ (zero : called .reply .refusal ≡ 0) {reports : List Report} (told : Told made reports) where
+    reported : Reported called reports
+    reported =
+        record {
+          silence = by-answer (follows .result .answer) refl;
+          response = λ some-long. told .response (called .reply .length) (responded (follows .result .answer) (follows .answer) some-long);
+        }
+      where
+        by-answer : (answer : Answer) → follows .result .answer ≡ answer → called .reply .length ≡ 0 → reports ≡ []
+        by-answer (Refused number) e none-long = absurd (taken zero number e)
+        by-answer Silence e none-long = told .silence e
+        by-answer (Response size) e none-long = absurd (omega (arith, long e, length-as e))
 
-  listed-as : (lines : List ℕ) → lines ≡ reportLines (reportsOf (request c)) → Listed called lines
-  listed-as lines e long listed text shown lists room =
-      subst (λ (l : List ℕ). Shown (header ++ l) listed text shown) (sym e)
-      (exported-responses-agree c (called .next) (called .reply) (called .after) (called .contract) long .listed listed text shown lists room)
+    listed : Listed called (reportLines reports)
+    listed some-long reply text shown lists room =
+        subst (λ (lines : List ℕ). Shown (header ++ lines) reply text shown) (ap reportLines (sym (told-once made (taken zero) reports told)))
+        (exported-responses-agree c (called .next) (called .reply) (called .after) (called .contract) some-long .listed reply text shown lists room)
 
 pub replies-reported : RepliesReported
-replies-reported c called zero = (reportsOf (request c), reports-told called zero)
+replies-reported c called zero = let told = answers-told c (made called) in (told .0, reported called zero (told .1))
 
 pub exported-packets-join : ExportedPacketsJoin
-exported-packets-join first second earlier later one two turn zero zero-too reports more tells tells-too fit given asks reply written writes =
-    let left-first : InTurn first second earlier later (step first .board) = record { one = turn .one; two = turn .two; next = turn .next ∙ one .contract .board } in
-    let accepted : stepRefusal first ≡ none = not-refused one zero in
-    let also : stepRefusal second ≡ none = not-refused two zero-too in
-    let of-first : reports ≡ reportsOf (request first) = told-once one zero reports tells in
-    let of-second : more ≡ reportsOf (request second) = told-once two zero-too more tells-too in
-    let fits = subst (BothFit (first .board) (earlier ++ later)) (λ i. of-first i ++ of-second i) fit in
-    let written-as : Writes given (writtenAs (writeRefusal given) given) written = record { answered = refl; held = writes .held } in
-    let size : writtenAs (writeRefusal given) given ≡ Length (length (packetOf (requestOf given))) =
-    length-told first second earlier later left-first accepted also fits given asks written-as in
-    let told : reply ≡ replyWith 0 (length (packetOf (requestOf given))) = writes .answered ∙ ap writtenReply size in
+exported-packets-join first second earlier later one two turn zero zero-too reports more found found-too fit given asks reply written writes =
+    let joined : WrittenJoins (first .board) (made two) (earlier ++ later) (reports ++ more) (writtenAs (writeRefusal given) given) written =
+    contracts-join first second earlier later (made one) (made two)
+    (record { one = turn .one; two = turn .two; next = turn .next ∙ follows one .board })
+    (taken one zero) (taken two zero-too) reports more (tells one found) (tells two found-too) fit given asks (writtenAs (writeRefusal given) given) written
+    (record { answered = refl; held = writes .held }) in
+    let told : reply ≡ replyWith 0 (joined .size) = writes .answered ∙ ap writtenReply (joined .taken) in
     record {
       taken = ap (λ (r : Reply). r .refusal) told;
       joins = λ buffer room both.
-          let joins =
-          packet-joins first second earlier later left-first accepted also fits given asks written-as (size ∙ ap (λ (r : Reply). Length (r .length)) (sym told)) buffer room in
-          let zero-again : both .reply .refusal ≡ 0 = ap (λ (r : Reply). r .refusal) (both .contract .answer) ∙ answered-zero (joins .answered) in
-          let of-both : reports ++ more ≡ reportsOf (request (call (first .board) (take (reply .length) written) buffer)) = (λ i. of-first i ++ of-second i) ∙ sym (joins .reports) in
+          let joins : AnswersJoin (made two) (made both) (earlier ++ later) (reports ++ more) =
+          subst (λ (size : ℕ). (both : PacketMade (call (first .board) (take size written) buffer)) → AnswersJoin (made two) both (earlier ++ later) (reports ++ more))
+          (ap (λ (r : Reply). r .length) (sym told)) (joined .joins buffer room) (made both) in
+          let zero-again : both .reply .refusal ≡ 0 =
+          ap (λ (r : Reply). r .refusal) (follows both .answer) ∙ not-refused (follows both .result .answer) (joins .accepted) in
           record {
             own = joins .own;
             accepted = zero-again;
-            board = both .contract .board ∙ joins .board ∙ sym (two .contract .board);
-            reported = subst (Reported both) (sym of-both) (reports-told both zero-again);
-            first-listed = listed-as one zero (reportLines reports) (ap reportLines of-first);
-            second-listed = listed-as two zero-too (reportLines more) (ap reportLines of-second);
-            both-listed = listed-as both zero-again (reportLines reports ++ reportLines more) (sym (lines-join reports more) ∙ ap reportLines of-both);
+            board = follows both .board ∙ joins .board ∙ sym (follows two .board);
+            reported = reported both zero-again (joins .told);
+            first-listed = listed one zero (tells one found);
+            second-listed = listed two zero-too (tells two found-too);
+            both-listed = subst (Listed both) (lines-join reports more) (listed both zero-again (joins .told));
           };
     }
   where
-    answered-zero : {c : Call} → Silent c ⊎ Responds c → replyOf (step c .answer) .refusal ≡ 0
-    answered-zero (inl silent) = ap (λ (a : Answer). replyOf a .refusal) (silent .answer)
-    answered-zero (inr responds) = ap (λ (a : Answer). replyOf a .refusal) (responds .answer)
+    not-refused : (answer : Answer) → Accepted answer → replyOf answer .refusal ≡ 0
+    not-refused (Refused number) accepted = absurd (accepted number refl)
+    not-refused Silence accepted = refl
+    not-refused (Response size) accepted = refl

@@ -39,7 +39,7 @@ use Rattle.tool.specs.declared.request.Written.{Written}
 use Rattle.tool.specs.declared.request.Written.the-variants.{Length}
 use Rattle.tool.proofs.CommandLists.{lists-described}
 use Rattle.claims.specs.Agreement.{RequestRead}
-use Rattle.claims.specs.Joining.{InTurn, requestWith, responseWith, BothFit, PacketJoins, PacketsJoin, AsksFor, callFor, JoinedCalls, Stepping, Accepted, Told, AnswersTold, ContractsJoin}
+use Rattle.claims.specs.Joining.{InTurn, requestWith, responseWith, BothFit, PacketJoins, PacketsJoin, AsksFor, callFor, JoinedCalls, PacketMade, Accepted, Told, AnswersTold, ContractsJoin}
 use Rattle.claims.proofs.RequestsRead.{packet-sent, same-as, requests-agree}
 use Rattle.claims.proofs.ResponsesRead.{responses-agree}
 
@@ -140,10 +140,10 @@ module _
               le-ltb 256 _ (subst (λ (f : Frame). packetLength f ≤ 256) (sym frame-asked) (fit .packet)),
             )
 
-        pub length-told : {answer : Written} {written : List ℕ} → Writes given answer written → answer ≡ Length (length (packetOf (tool.requestOf given)))
+        length-told : {answer : Written} {written : List ℕ} → Writes given answer written → answer ≡ Length (length (packetOf (tool.requestOf given)))
         length-told writes = writes .answered ∙ ap (λ (o : Option ℕ). writtenAs o given) writer-takes
 
-        pub packet-joins :
+        packet-joins :
             {answer : Written} {written : List ℕ} {size : ℕ} → Writes given answer written → answer ≡ Length size
             → (buffer : List ℕ) → 256 ≤ length buffer → PacketJoins first second (call (first .board) (take size written) buffer) (earlier ++ later)
         packet-joins {answer} {written} {size} writes told buffer room =
@@ -175,7 +175,7 @@ packets-join first second earlier later turn accepted also fit buffer room =
     (packet-joins first second earlier later turn accepted also fit given asks writes told buffer room)
 
 -- what the tool reads in an answer are the reports of its packet
-told : {c : Call} (made : Stepping c) → Told made (reportsOf (request c))
+told : {c : Call} (made : PacketMade c) → Told made (reportsOf (request c))
 told {c} made =
     record {
       silence = λ e. by-answer (sym (made .contract .answer) ∙ e) (none-answered c (none-refused c (no-refusal (sym (made .contract .answer) ∙ e))));
@@ -193,12 +193,12 @@ pub answers-told : AnswersTold
 answers-told c made = (reportsOf (request c), told made)
 
 -- the contract of an accepted call
-module _ {c : Call} (made : Stepping c) (accepted : Accepted (made .result .answer)) where
+module _ {c : Call} (made : PacketMade c) (accepted : Accepted (made .result .answer)) where
   not-refused : stepRefusal c ≡ none
   not-refused = none-refused c (λ number e. accepted number (made .contract .answer ∙ e))
 
   -- and no others
-  told-once : (reports : List Report) → Told made reports → reports ≡ reportsOf (request c)
+  pub told-once : (reports : List Report) → Told made reports → reports ≡ reportsOf (request c)
   told-once reports tells = by-answer (none-answered c not-refused)
     where
       by-answer : Silent c ⊎ Responds c → reports ≡ reportsOf (request c)

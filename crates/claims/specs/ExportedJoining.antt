@@ -17,32 +17,32 @@ use Rattle.claims.specs.ExportedAgreement.{Shown}
 use Rattle.claims.specs.Joining.{Own, InTurn, BothFit, AsksFor}
 
 -- the record, the reply and the buffer that `udgornwy_packet` left
-pub record Called (c : Call) : Type 0 where
+pub record PacketCalled (c : Call) : Type 0 where
   pub next : Board
   pub reply : Reply
   pub after : List ℕ
   pub contract : Replies c next reply after
 
 -- the response
-abbrev pub sentBack : {c : Call} → Called c → List ℕ
-sentBack called = take (called .reply .length) (called .after)
+abbrev pub responseBytes : {c : Call} → PacketCalled c → List ℕ
+responseBytes called = take (called .reply .length) (called .after)
 
 -- the reports that stand in it; none in silence
-pub record Reported {c : Call} (called : Called c) (reports : List Report) : Type 0 where
+pub record Reported {c : Call} (called : PacketCalled c) (reports : List Report) : Type 0 where
   pub silence : called .reply .length ≡ 0 → reports ≡ []
-  pub response : 1 ≤ called .reply .length → reportsOf (sentBack called) ≡ some reports
+  pub response : 1 ≤ called .reply .length → reportsOf (responseBytes called) ≡ some reports
 
 -- there are such reports
 abbrev pub RepliesReported : Type 0
-RepliesReported = (c : Call) (called : Called c) → called .reply .refusal ≡ 0 → (reports : List Report) × Reported called reports
+RepliesReported = (c : Call) (called : PacketCalled c) → called .reply .refusal ≡ 0 → (reports : List Report) × Reported called reports
 
 -- the lines that `udgornwy_list` writes of it after the header, in a buffer as long as the longest listing
-abbrev pub Listed : {c : Call} → Called c → List ℕ → Type 0
+abbrev pub Listed : {c : Call} → PacketCalled c → List ℕ → Type 0
 Listed called lines =
-    1 ≤ called .reply .length → (listed : Reply) (text shown : List ℕ) → ListsInNumbers (listing (sentBack called)) text listed shown
+    1 ≤ called .reply .length → (listed : Reply) (text shown : List ℕ) → ListsInNumbers (listing (responseBytes called)) text listed shown
     → 1753 ≤ length text → Shown (header ++ lines) listed text shown
 
-pub record CallsJoin {first second joined : Call} (one : Called first) (two : Called second) (both : Called joined) (commands : List Command) (reports more : List Report) : Type 0 where
+pub record CallsJoin {first second joined : Call} (one : PacketCalled first) (two : PacketCalled second) (both : PacketCalled joined) (commands : List Command) (reports more : List Report) : Type 0 where
   pub own : Own joined commands
   pub accepted : both .reply .refusal ≡ 0
   pub board : both .next ≡ two .next
@@ -51,15 +51,15 @@ pub record CallsJoin {first second joined : Call} (one : Called first) (two : Ca
   pub second-listed : Listed two (reportLines more)
   pub both-listed : Listed both (reportLines reports ++ reportLines more)
 
-pub record ExportedWrittenJoins {first second : Call} (one : Called first) (two : Called second) (commands : List Command) (reports more : List Report) (reply : Reply) (written : List ℕ) : Type 0 where
+pub record ExportedWrittenJoins {first second : Call} (one : PacketCalled first) (two : PacketCalled second) (commands : List Command) (reports more : List Report) (reply : Reply) (written : List ℕ) : Type 0 where
   pub taken : reply .refusal ≡ 0
   pub joins :
-      (buffer : List ℕ) → 256 ≤ length buffer → (both : Called (call (first .board) (take (reply .length) written) buffer))
+      (buffer : List ℕ) → 256 ≤ length buffer → (both : PacketCalled (call (first .board) (take (reply .length) written) buffer))
       → CallsJoin one two both commands reports more
 
 abbrev pub ExportedPacketsJoin : Type 0
 ExportedPacketsJoin =
-    (first second : Call) (earlier later : List Command) (one : Called first) (two : Called second)
+    (first second : Call) (earlier later : List Command) (one : PacketCalled first) (two : PacketCalled second)
     → InTurn first second earlier later (one .next) → one .reply .refusal ≡ 0 → two .reply .refusal ≡ 0
     → (reports more : List Report) → Reported one reports → Reported two more → BothFit (first .board) (earlier ++ later) (reports ++ more)
     → (given : WriteCall) → AsksFor (first .board) (earlier ++ later) given → (reply : Reply) (written : List ℕ) → WritesInNumbers given reply written

@@ -72,18 +72,21 @@ pub record AsksFor (board : Board) (commands : List Command) (given : WriteCall)
   pub listed : commandsOf given ≡ commands
   pub room : 256 ≤ length (given .buffer)
 
--- there is one for the commands of every two packets that are accepted
+-- the one with the slices of the commands
 abbrev pub callFor : List ℕ → Board → List Command → WriteCall
 callFor buffer board commands =
     writeCall buffer (board .id) (passwordOf board) (functionsOf commands) (numbersOf commands) (lengthsOf commands) (valuesOf commands)
 
+-- so there is one for the commands of every two accepted packets
 abbrev pub JoinedCalls : Type 0
 JoinedCalls =
     (first second : Call) (earlier later : List Command) → Asks first earlier → Asks second later → stepRefusal first ≡ none → stepRefusal second ≡ none
     → (buffer : List ℕ) → 256 ≤ length buffer → AsksFor (first .board) (earlier ++ later) (callFor buffer (first .board) (earlier ++ later))
 
 -- The same of the code: all that is known of a call of `packet` or of `write` is its contract.
-pub record Stepping (c : Call) : Type 0 where
+
+-- the result of `packet` and the buffer after it
+pub record PacketMade (c : Call) : Type 0 where
   pub result : Stepped
   pub after : List ℕ
   pub contract : Steps c result after
@@ -92,30 +95,30 @@ abbrev pub Accepted : Answer → Type 0
 Accepted answer = (number : ℕ) → answer ≡ Refused number → ⊥
 
 -- what the tool reads in an answer: the reports of a response, none in silence
-pub record Told {c : Call} (made : Stepping c) (reports : List Report) : Type 0 where
+pub record Told {c : Call} (made : PacketMade c) (reports : List Report) : Type 0 where
   pub silence : made .result .answer ≡ Silence → reports ≡ []
   pub response : (size : ℕ) → made .result .answer ≡ Response size → read.reportsOf (take size (made .after)) ≡ some reports
 
 -- there are such reports
 abbrev pub AnswersTold : Type 0
-AnswersTold = (c : Call) (made : Stepping c) → (reports : List Report) × Told made reports
+AnswersTold = (c : Call) (made : PacketMade c) → (reports : List Report) × Told made reports
 
-pub record AnswersJoin {second joined : Call} (two : Stepping second) (both : Stepping joined) (commands : List Command) (reports : List Report) : Type 0 where
+pub record AnswersJoin {second joined : Call} (two : PacketMade second) (both : PacketMade joined) (commands : List Command) (reports : List Report) : Type 0 where
   pub own : Own joined commands
   pub accepted : Accepted (both .result .answer)
   pub board : both .result .board ≡ two .result .board
   pub told : Told both reports
 
 -- the writer takes the joined commands, and what it wrote stands in the place of both packets
-pub record WrittenJoins {second : Call} (board : Board) (two : Stepping second) (commands : List Command) (reports : List Report) (answer : Written) (written : List ℕ) : Type 0 where
+pub record WrittenJoins {second : Call} (board : Board) (two : PacketMade second) (commands : List Command) (reports : List Report) (answer : Written) (written : List ℕ) : Type 0 where
   pub size : ℕ
   pub taken : answer ≡ Length size
   pub joins :
-      (buffer : List ℕ) → 256 ≤ length buffer → (both : Stepping (call board (take size written) buffer)) → AnswersJoin two both commands reports
+      (buffer : List ℕ) → 256 ≤ length buffer → (both : PacketMade (call board (take size written) buffer)) → AnswersJoin two both commands reports
 
 abbrev pub ContractsJoin : Type 0
 ContractsJoin =
-    (first second : Call) (earlier later : List Command) (one : Stepping first) (two : Stepping second)
+    (first second : Call) (earlier later : List Command) (one : PacketMade first) (two : PacketMade second)
     → InTurn first second earlier later (one .result .board) → Accepted (one .result .answer) → Accepted (two .result .answer)
     → (reports more : List Report) → Told one reports → Told two more → BothFit (first .board) (earlier ++ later) (reports ++ more)
     → (given : WriteCall) → AsksFor (first .board) (earlier ++ later) given → (answer : Written) (written : List ℕ) → Writes given answer written

@@ -13,6 +13,15 @@ struct Identity {
     password: Vec<u8>,
 }
 
+impl Identity {
+    fn ask(&self, request: &Request) -> Call {
+        Call::Packet {
+            length: 256,
+            packet: packet::write(&self.id, &self.password, request.function, &request.data),
+        }
+    }
+}
+
 /// A request block and its commands.
 struct Request {
     function: u8,
@@ -33,11 +42,7 @@ impl Generator {
         let mut apart = Vec::new();
         self.make(&start);
         for request in &requests {
-            let packet = packet::write(&own.id, &own.password, request.function, &request.data);
-            apart.push(self.call(Call::Packet {
-                length: 256,
-                packet,
-            }));
+            apart.push(self.call(own.ask(request)));
         }
         apart.push(self.call(Call::Record));
         self.make(&start);
@@ -60,8 +65,8 @@ impl Generator {
         }];
         for _ in 0..self.random.between(0, 2) {
             let call = match self.random.chance(70) {
-                true => self.change(&own),
-                false => self.sound_measurement(),
+                true => own.ask(&self.request(&own)),
+                false => self.any_measurement(),
             };
             calls.push(call);
         }
@@ -74,21 +79,13 @@ impl Generator {
         }
     }
 
-    fn change(&mut self, own: &Identity) -> Call {
-        let request = self.request(own);
-        Call::Packet {
-            length: 256,
-            packet: packet::write(&own.id, &own.password, request.function, &request.data),
-        }
-    }
-
-    fn sound_measurement(&mut self) -> Call {
+    fn any_measurement(&mut self) -> Call {
         let number = self.measured_row();
         let value = values::value(&mut self.random, number);
         Call::Measure { number, value }
     }
 
-    /// A few commands in any form, or now and then as many of a row as one packet or its response takes with the other's.
+    /// A few commands in any form; now and then many of one row, so that two such packets may not fit together.
     fn request(&mut self, own: &Identity) -> Request {
         let function = self.random.between(1, 5) as u8;
         let room = board_calls::room(&own.password);
@@ -104,11 +101,11 @@ impl Generator {
                 item.repeat(self.random.between(20, room / 2))
             }
         };
-        let read = block::read_request(function, &data);
+        let read = block::read_request(function, &data).expect("a well-formed block");
         Request {
             function,
             data,
-            commands: read.map_or(Vec::new(), |request| request.commands),
+            commands: read.commands,
         }
     }
 
