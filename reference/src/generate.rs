@@ -2,6 +2,7 @@
 
 mod blocks;
 mod board_calls;
+mod calendar;
 mod identities;
 mod joining;
 mod lines;
@@ -28,8 +29,8 @@ struct Generator {
 type Scenario = fn(&mut Generator);
 
 /// How often each scenario comes, in parts of their sum.
-const SCENARIOS: [(usize, Scenario); 23] = [
-    (5, Generator::set_up),
+const SCENARIOS: [(usize, Scenario); 24] = [
+    (6, Generator::set_up),
     (24, Generator::rightful_traffic),
     (8, Generator::one_row),
     (8, Generator::search),
@@ -45,6 +46,7 @@ const SCENARIOS: [(usize, Scenario); 23] = [
     (2, Generator::poke_identity),
     (14, Generator::schedule_traffic),
     (4, Generator::poke_entry),
+    (8, Generator::calendar_traffic),
     (7, Generator::tool_to_board),
     (2, Generator::joined_packets),
     (5, Generator::faulty_write),

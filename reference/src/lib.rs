@@ -2,6 +2,7 @@
 
 pub mod block;
 pub mod board;
+pub mod calendar;
 pub mod call;
 pub mod compare;
 pub mod edges;

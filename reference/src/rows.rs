@@ -3,6 +3,10 @@
 use std::collections::BTreeMap;
 use std::sync::OnceLock;
 
+use crate::calendar;
+
+/// The row that holds the date.
+pub const CALENDAR_ROW: u16 = 0x0070;
 /// The row that holds the board's ID.
 pub const ID_ROW: u16 = 0x007C;
 /// The row that holds the unit type.
@@ -28,6 +32,8 @@ pub enum Values {
     Number { size: usize, members: Vec<u16> },
     /// Each byte in a range of its own.
     Bytes(Vec<(u8, u8)>),
+    /// Day, weekday, month and year of a date.
+    Date,
     /// Bytes 20 to 7E, the length in a range.
     Text { shortest: usize, longest: usize },
 }
@@ -59,6 +65,7 @@ impl Row {
         match &self.values {
             Values::Number { size, .. } => *size,
             Values::Bytes(ranges) => ranges.len(),
+            Values::Date => 4,
             Values::Text { longest, .. } => *longest,
         }
     }
@@ -79,6 +86,9 @@ impl Row {
                         .iter()
                         .zip(ranges)
                         .all(|(byte, (low, high))| low <= byte && byte <= high)
+            }
+            Values::Date => {
+                <[u8; 4]>::try_from(value).is_ok_and(|value| calendar::judge(value).is_ok())
             }
             Values::Text { shortest, longest } => {
                 (*shortest..=*longest).contains(&value.len())
@@ -125,6 +135,7 @@ impl Row {
             (UNIT_TYPE_ROW, _) => UNIT_TYPE.to_vec(),
             (_, Values::Number { size, members }) => bytes_of(members[0], *size),
             (_, Values::Bytes(ranges)) => ranges.iter().map(|(low, _)| *low).collect(),
+            (_, Values::Date) => vec![1, 6, 1, 0],
             (_, Values::Text { shortest, .. }) => vec![b' '; *shortest],
         }
     }
@@ -241,7 +252,12 @@ fn three() -> Vec<Row> {
         byte_row(0x009A, access, 1..=13),
         byte_row(0x0400, access, 0..=80),
         bytes_row(0x006F, access, &[(0, 59), (0, 59), (0, 23)]),
-        bytes_row(0x0070, access, &[(1, 31), (1, 7), (1, 12), (0, 99)]),
+        Row {
+            number: CALENDAR_ROW,
+            access,
+            inverts: false,
+            values: Values::Date,
+        },
         text_row(0x0095, 1, 32),
         text_row(0x0096, 8, 64),
     ];
@@ -383,7 +399,7 @@ mod tests {
     }
 
     #[test]
-    fn text_and_clock_are_judged_byte_by_byte() {
+    fn texts_clock_and_calendar_end_where_the_rules_say() {
         assert!(row(0x0095).contains(b" ") && row(0x0095).contains(&[0x7E; 32]));
         assert!(!row(0x0095).contains(b"") && !row(0x0095).contains(&[0x41; 33]));
         assert!(!row(0x0095).contains(&[0x1F]) && !row(0x0095).contains(&[0x41, 0x7F]));
@@ -391,14 +407,13 @@ mod tests {
         assert!(!row(0x0096).contains(&[0x30; 7]) && !row(0x0096).contains(&[0x30; 65]));
         assert!(row(0x006F).contains(&[59, 59, 23]) && !row(0x006F).contains(&[60, 0, 0]));
         assert!(!row(0x006F).contains(&[0, 60, 0]) && !row(0x006F).contains(&[0, 0, 24]));
-        assert!(row(0x0070).contains(&[31, 7, 12, 99]) && row(0x0070).contains(&[1, 1, 1, 0]));
-        assert!(!row(0x0070).contains(&[4, 0x85, 0x37, 0x42]));
-        for illegal in [[0, 1, 1, 0], [32, 1, 1, 0], [1, 0, 1, 0], [1, 8, 1, 0]] {
+        for date in [[1, 6, 1, 0], [29, 2, 2, 0], [31, 4, 12, 99]] {
+            assert!(row(0x0070).contains(&date));
+        }
+        for illegal in [[1, 1, 1, 0], [29, 4, 2, 1], [4, 0x85, 0x37, 0x42]] {
             assert!(!row(0x0070).contains(&illegal));
         }
-        for illegal in [[1, 1, 0, 0], [1, 1, 13, 0], [1, 1, 1, 100]] {
-            assert!(!row(0x0070).contains(&illegal));
-        }
+        assert!(!row(0x0070).contains(&[1, 6, 1]) && !row(0x0070).contains(&[1, 6, 1, 0, 0]));
     }
 
     #[test]
@@ -416,7 +431,7 @@ mod tests {
         for row in all().values() {
             assert!(row.contains(&row.start()), "{:04X}", row.number);
         }
-        assert_eq!(row(0x0070).start(), [1, 1, 1, 0]);
+        assert_eq!(row(0x0070).start(), [1, 6, 1, 0]);
         assert_eq!(row(0x0099).start(), [48]);
         assert_eq!(row(0x0063).start(), [0, 0]);
     }

@@ -1,11 +1,13 @@
 //! How often each answer came, call by call, and which ones never did.
 
+mod calendar;
 mod schedule;
 
 use std::collections::BTreeMap;
 
-use crate::packet::LONGEST;
-use crate::record::Record;
+use crate::block::{self, Command};
+use crate::packet::{self, CODE_WORD, LONGEST};
+use crate::record::{CLIENT, Record};
 use crate::replay::BAD_LINE;
 
 /// What a comparison has to meet: each call with its refusals and its other answers.
@@ -50,7 +52,8 @@ impl Tally {
             let full = format!("{name} of {LONGEST} bytes");
             *self.counts.entry(full).or_default() += 1;
         }
-        let names = schedule::met(line, answer, record);
+        let mut names = schedule::met(line, answer, record);
+        names.extend(calendar::met(line, answer, record));
         for name in names.into_iter().chain([name]) {
             *self.counts.entry(name).or_default() += 1;
         }
@@ -81,7 +84,20 @@ fn expected() -> impl Iterator<Item = String> {
             .map(move |number| format!("{call} refused {number}"));
         answers.chain(refusals)
     });
-    calls.chain(schedule::expected())
+    calls
+        .chain(schedule::expected())
+        .chain(calendar::expected())
+}
+
+/// The ID and the commands of a packet that can be read.
+fn request(packet: &[u8]) -> Option<(&[u8], Vec<Command>)> {
+    let frame = packet::read(packet).ok()?;
+    let request = block::read_request(frame.function, frame.data)?;
+    Some((frame.id, request.commands))
+}
+
+fn is_search(id: &[u8], record: &Record) -> bool {
+    id == CODE_WORD && record.mode == CLIENT
 }
 
 /// Call and answer in words.
@@ -141,7 +157,7 @@ mod tests {
     fn generated_lists_meet_every_answer_often() {
         let mut tally = Tally::default();
         let mut session = Session::new();
-        for line in generate::list(1, 20_000) {
+        for line in generate::list(1, 30_000) {
             if let Some(answer) = session.line(line.as_bytes()) {
                 tally.add(&line, &answer, &session.record);
             }

@@ -37,7 +37,7 @@ fn e2_its_response_and_listing() {
 fn e3_the_guides_write_keeps_the_calendar() {
     let mut board = Board::new("", 1);
     let data = "9B 02 FE 04 70 04 85 37 42 07 01";
-    board.expect(3, data, "9B 01 FE 04 70 01 01 01 00 07 01");
+    board.expect(3, data, "9B 01 FE 04 70 01 06 01 00 07 01");
     let read = board.call(&format!(
         "read {ZERO_ID} - {}",
         packet(ZERO_ID, "", 6, data)

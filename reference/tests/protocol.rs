@@ -157,6 +157,7 @@ fn rows_have_the_sets() {
         match set {
             "any" => holds_bytes(row, &vec![0..=255; row.room()]),
             "text" => holds_text(row),
+            "a date" => holds_dates(row),
             "the ID" => holds_bytes(row, &ID.map(|byte| byte.into()..=byte.into())),
             _ if set.contains(" / ") => {
                 let field = |field: &str| range(field.split_once(' ').expect("a field's name").1);
@@ -187,6 +188,50 @@ fn holds_bytes(row: &Row, ranges: &[RangeInclusive<u16>]) {
             let held = is_held(&mut record, row.number, &value);
             let listed = range.contains(&byte.into());
             assert_eq!(held, listed, "{:04X} {value:?}", row.number);
+        }
+    }
+}
+
+/// The days of a month, from the table of months.
+fn listed_days(month: u16, is_leap: bool) -> u8 {
+    let months = table("The rows", "Month");
+    let cells = months
+        .iter()
+        .find(|cells| members(&cells[0]).contains(&month));
+    let days = &cells.expect("the month")[1];
+    let (common, leap) = days.split_once(", in a leap year ").unwrap_or((days, days));
+    let days = if is_leap { leap } else { common };
+    days.parse().expect("a number")
+}
+
+/// Every month's days and one more, the weekdays counted on from the Saturday of 1 January 2000.
+fn holds_dates(row: &Row) {
+    let mut record = start();
+    let mut weekday = 6;
+    for year in 0..=99 {
+        let is_leap = year % 4 == 0;
+        for month in 1..=12 {
+            let days = listed_days(month.into(), is_leap);
+            for day in 1..=days {
+                assert!(is_held(
+                    &mut record,
+                    row.number,
+                    &[day, weekday, month, year]
+                ));
+                weekday = weekday % 7 + 1;
+                assert!(!is_held(
+                    &mut record,
+                    row.number,
+                    &[day, weekday, month, year]
+                ));
+            }
+            for day in [0, days + 1] {
+                assert!(!is_held(
+                    &mut record,
+                    row.number,
+                    &[day, weekday, month, year]
+                ));
+            }
         }
     }
 }

@@ -9,6 +9,7 @@ use Rattle.block.specs.Encoding.{encodeCommand, encodeCommandsFrom, encodeRepor
 use Rattle.block.specs.Reading.{whole}
 use Rattle.block.specs.Request as request
 use Rattle.block.specs.Response as response
+use Rattle.calendar.specs.Dates.{daysOfMonths, daysOfYears}
 use Rattle.store.specs.Layout.{placesFrom}
 use Rattle.store.specs.Rows.{rows, indexIn}
 use Rattle.store.specs.Sets.{printable, firstAfter, firstBefore}
@@ -27,5 +28,5 @@ use Rattle.claims.specs.Examples.{happened}
 use Rattle.claims.specs.Table.{examples, ExamplesHold}
 
 pub examples-hold : ExamplesHold
-unfolding same sum checksum defaultId allAlphanumeric packetRefusals packetRefusal firstRefusal encodeCommand encodeCommandsFrom encodeReport encodeReports every whole request.items response.items placesFrom rows indexIn printable firstAfter firstBefore soundRows lowest startValue startSlots start afterCommand reported run runReports discovered discoverReports measureRefusals measureRefusal measuredBoard setUpRefusals setUpRefusal setUpBoard sound requestRefusals stepRefusals stepRefusal step commandList hexBytes reportLine reportLines writeRefusals writeRefusal responseRefusals anyResponseRefusals anyResponseRefusal happened examples allLegal
+unfolding same sum checksum defaultId allAlphanumeric packetRefusals packetRefusal firstRefusal encodeCommand encodeCommandsFrom encodeReport encodeReports every whole request.items response.items daysOfMonths daysOfYears placesFrom rows indexIn printable firstAfter firstBefore soundRows lowest startValue startSlots start afterCommand reported run runReports discovered discoverReports measureRefusals measureRefusal measuredBoard setUpRefusals setUpRefusal setUpBoard sound requestRefusals stepRefusals stepRefusal step commandList hexBytes reportLine reportLines writeRefusals writeRefusal responseRefusals anyResponseRefusals anyResponseRefusal happened examples allLegal
 examples-hold = refl

@@ -9,6 +9,7 @@ use mathlib.Core.Path.{_≡_, refl, sym, ap, _∙_, subst}
 use borrow.Author.Tests.{eq-eqb, eqb-false, leb-true, lt-leb, not-true}
 use lib.Dec.{eqb, leb}
 use lib.ListN.{length}
+use Rattle.calendar.specs.Dates.{daysOfMonths, daysOfYears}
 use Rattle.store.specs.declared.Measurement.the-variants.{Accepted, NotMeasured, WrongLength}
 use Rattle.store.specs.declared.Range.{Range}
 use Rattle.store.specs.declared.Store.{Store}
@@ -99,7 +100,7 @@ unfolding rows indexIn
 id-member id e = eq-eqb (length id) 16 e
 
 pub start-sound : StartSound
-unfolding rows indexIn placesFrom printable lowest startValue startSlots start blank soundRows
+unfolding daysOfMonths daysOfYears rows indexIn placesFrom printable lowest startValue startSlots start blank soundRows
 start-sound id e = subst (λ (s : Store). sound s ≡ true) (start-with id) (soundness.sound-with blank 0x007C id blank-sized refl (id-member id e))
 
 unit-type : valueOf blank 0x00B9 ≡ 2 ∷ 0 ∷ []

@@ -6,6 +6,7 @@ use mathlib.Core.Option.{Option, none, some}
 use lib.Dec.{eqb, leb, ltb}
 use lib.ListN.{length, getD, take}
 use Rattle.octets.specs.Octets.{between}
+use Rattle.calendar.specs.Dates.{isDate}
 use Rattle.store.specs.declared.Range.{Range}
 use Rattle.store.specs.Rows.{Set, Switch, Number, Text, Free, Clock, Calendar}
 
@@ -25,17 +26,13 @@ unfoldable pub printable : List ℕ → Bool
 printable [] = true
 printable (x ∷ xs) = between 0x20 0x7E x && printable xs
 
--- the first three bytes, from one lower bound on, each up to its own
-abbrev pub threeFields : ℕ → ℕ → ℕ → ℕ → List ℕ → Bool
-threeFields low first second third v = between low first (getD v 0 0) && between low second (getD v 1 0) && between low third (getD v 2 0)
-
 -- seconds, minutes, hours
 abbrev pub isClock : List ℕ → Bool
-isClock v = threeFields 0 59 59 23 v
+isClock v = leb (getD v 0 0) 59 && leb (getD v 1 0) 59 && leb (getD v 2 0) 23
 
 -- day, weekday, month, year
 abbrev pub isCalendar : List ℕ → Bool
-isCalendar v = threeFields 1 31 7 12 v && between 0 99 (getD v 3 0)
+isCalendar v = isDate (getD v 0 0) (getD v 1 0) (getD v 2 0) (getD v 3 0)
 
 abbrev pub member : Set → List ℕ → Bool
 member Switch v = eqb (length v) 1 && leb (getD v 0 0) 1

@@ -14,14 +14,14 @@ use Rattle.store.specs.Layout.{toSlot}
 abbrev pub least : Range → ℕ
 least r = cond (ltb (r .extra) (r .low)) (r .extra) (r .low)
 
--- the lowest bytes of a set
+-- the lowest bytes of a set; of the calendar the first date, Saturday 1 January 2000
 unfoldable pub lowest : Set → List ℕ
 lowest Switch = 0 ∷ []
 lowest (Number size r) = bytesOf size (least r)
 lowest (Text shortest longest) = replicate shortest 0x20
 lowest (Free size) = replicate size 0
 lowest Clock = 0 ∷ 0 ∷ 0 ∷ []
-lowest Calendar = 1 ∷ 1 ∷ 1 ∷ 0 ∷ []
+lowest Calendar = 1 ∷ 6 ∷ 1 ∷ 0 ∷ []
 
 unfoldable pub startValue : List ℕ → Row → List ℕ
 startValue id r =

@@ -831,7 +831,7 @@ pub const START: [u8; BYTES] = [
     0,
     0,
     1,
-    1,
+    6,
     1,
     0,
     0,

@@ -2,11 +2,9 @@
 ghost use mathlib.Core.Bool.{cond};
 ghost use mathlib.Core.Path.{_≡_};
 ghost use Prim.Native.Nat.{_<_};
-ghost use lib.ListN.{getD};
-ghost use Rattle.octets.specs.Octets.{between};
 ghost use Rattle.store.specs.Rows.{Switch, Number, Text, Clock, Calendar, rowAt};
 ghost use Rattle.store.specs.Layout.{sizeOf, setAt};
-ghost use Rattle.store.specs.Sets.{lowFirstNumber, inRange, printable, threeFields, member, greatest as greatestOf, leastAbove, greatestBelow};
+ghost use Rattle.store.specs.Sets.{lowFirstNumber, inRange, printable, member, greatest as greatestOf, leastAbove, greatestBelow};
 ghost use Rattle.store.specs.Columns.{rangeOf};
 ghost use Rattle.store.specs.Next.{nextOf};
 use crate::Quantity;
@@ -23,26 +21,13 @@ pub enum Next {
     Stay,
 }
 
-fn to_u16(byte: u8) -> u16
-    ensures { λ r. ⌜ r ≡ byte ⌝ }
-{
-    byte as u16
-}
-
 // The number that the first two bytes make, low byte first.
 pub fn low_first_number(value: &[u8]) -> u16
     ensures { λ r. ⌜ r ≡ lowFirstNumber (now (value .entry)) ⌝ }
 {
-    let low = to_u16(octets::byte_at(value, 0));
-    let high = to_u16(octets::byte_at(value, 1));
+    let low = octets::to_u16(octets::byte_at(value, 0));
+    let high = octets::to_u16(octets::byte_at(value, 1));
     low + 256 * high
-}
-
-// Whether the byte at a place lies between two bounds.
-fn field(value: &[u8], at: usize, low: u8, high: u8) -> bool
-    ensures { λ r. ⌜ r ≡ between low high (getD (now (value .entry)) at 0) ⌝ }
-{
-    octets::is_between(low, high, octets::byte_at(value, at))
 }
 
 fn in_range(range: Range, number: u16) -> bool
@@ -75,23 +60,19 @@ fn is_printable(value: &[u8]) -> bool
     true
 }
 
-// Whether the first three bytes lie between one lower bound and each its upper one.
-fn three_fields(value: &[u8], low: u8, first: u8, second: u8, third: u8) -> bool
-    ensures { λ r. ⌜ r ≡ threeFields low first second third (now (value .entry)) ⌝ }
-{
-    if !field(value, 0, low, first) {
-        return false;
-    }
-    if !field(value, 1, low, second) {
-        return false;
-    }
-    field(value, 2, low, third)
-}
-
 fn is_clock(value: &[u8]) -> bool
     ensures { λ r. ⌜ r ≡ member Clock (now (value .entry)) ⌝ }
 {
-    value.len() == 3 && three_fields(value, 0, 59, 59, 23)
+    if value.len() != 3 {
+        return false;
+    }
+    if 59 < value[0] {
+        return false;
+    }
+    if 59 < value[1] {
+        return false;
+    }
+    value[2] <= 23
 }
 
 fn is_calendar(value: &[u8]) -> bool
@@ -100,10 +81,7 @@ fn is_calendar(value: &[u8]) -> bool
     if value.len() != 4 {
         return false;
     }
-    if !three_fields(value, 1, 31, 7, 12) {
-        return false;
-    }
-    field(value, 3, 0, 99)
+    calendar::is_date(value[0], value[1], value[2], value[3])
 }
 
 fn is_switch(value: &[u8]) -> bool
@@ -117,7 +95,7 @@ fn takes(index: usize, temperature: WholeDegrees) -> bool
     requires { ⌜ rowAt index .quantity ≡ Quantity.WholeDegrees ⌝ }
     ensures { λ r. ⌜ r ≡ inRange (rangeOf (setAt index)) (temperature .degrees) ⌝ }
 {
-    in_range(range_at(index), to_u16(temperature.degrees))
+    in_range(range_at(index), octets::to_u16(temperature.degrees))
 }
 
 fn is_number(index: usize, value: &[u8]) -> bool

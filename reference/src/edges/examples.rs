@@ -47,7 +47,7 @@ fn guide_packets(edges: &mut Edges) {
 fn guide_blocks(edges: &mut Edges) {
     edges.rule("E3: three commands under 03; weekday 133 is read and not stored");
     let data = "9B 02 FE 04 70 04 85 37 42 07 01";
-    edges.expect(3, data, "9B 01 FE 04 70 01 01 01 00 07 01");
+    edges.expect(3, data, "9B 01 FE 04 70 01 06 01 00 07 01");
     let write = format!("write 256 {ZERO} 31313131 3:009B:02 3:0070:04853742 3:0007:01");
     let request = framed(&ZERO_ID, PASSWORD, 3, data);
     edges.line(write, format!("packet {request}"));

@@ -11,6 +11,7 @@ pub fn add(edges: &mut Edges) {
     fan_speeds(edges);
     edges.set_up(&ID, PASSWORD, 1);
     clock(edges);
+    calendar(edges);
     free_bytes(edges);
     texts(edges);
 }
@@ -192,25 +193,59 @@ fn clock(edges: &mut Edges) {
         held = if legal { value } else { held };
         edges.expect(3, value, held);
     }
-    edges.rule("0070: day, weekday, month and year at their edges; 31 February is legal");
-    let mut held = "FE 04 70 01 01 01 00";
-    let dates = [
-        ("FE 04 70 1F 07 0C 63", true),
-        ("FE 04 70 00 01 01 00", false),
-        ("FE 04 70 20 01 01 00", false),
-        ("FE 04 70 01 00 01 00", false),
-        ("FE 04 70 01 08 01 00", false),
-        ("FE 04 70 01 01 00 00", false),
-        ("FE 04 70 01 01 0D 00", false),
-        ("FE 04 70 01 01 01 64", false),
-        ("FE 04 70 1F 01 02 17", true),
-        ("FE 04 70 04 85 37 42", false),
-        ("FE 04 70 FF FF FF FF", false),
-        ("FE 04 70 01 01 01 00", true),
-    ];
-    for (value, legal) in dates {
-        held = if legal { value } else { held };
-        edges.expect(3, value, held);
+}
+
+/// Day, weekday, month and year, and whether they are a date.
+const DATES: [(&str, bool); 22] = [
+    ("1F 04 0C 63", true),
+    ("00 05 01 00", false),
+    ("20 02 01 00", false),
+    ("01 00 01 00", false),
+    ("01 08 01 00", false),
+    ("01 05 01 00", false),
+    ("01 07 01 00", false),
+    ("01 01 01 00", false),
+    ("01 06 00 00", false),
+    ("01 01 0D 00", false),
+    ("01 05 01 64", false),
+    ("01 06 01 00", true),
+    ("1D 02 02 00", true),
+    ("1D 03 02 00", false),
+    ("1E 03 02 00", false),
+    ("1D 04 02 01", false),
+    ("1C 03 02 01", true),
+    ("1F 01 04 00", false),
+    ("1E 07 04 00", true),
+    ("1F 01 02 17", false),
+    ("04 85 37 42", false),
+    ("FF FF FF FF", false),
+];
+
+fn calendar(edges: &mut Edges) {
+    edges.rule("0070: 31 December 2099, a Thursday; 29 February 2000, a Tuesday, not of 2001; 31 April; wrong weekdays");
+    let mut held = "01 06 01 00";
+    for (date, is_date) in DATES {
+        held = if is_date { date } else { held };
+        edges.expect(3, &format!("FE 04 70 {date}"), &format!("FE 04 70 {held}"));
+    }
+    edges.rule("0070: the last of each month, and the day after it, which is no day of that month");
+    // 31 December 1999 was a Friday. Of these years every fourth is a leap year.
+    let mut weekday = 5;
+    for year in 0..100 {
+        let february = if year % 4 == 0 { 29 } else { 28 };
+        let lengths = [31, february, 31, 30, 31, 30, 31, 31, 30, 31, 30, 31];
+        let (mut data, mut reports) = (String::new(), String::new());
+        for (month, length) in (1..).zip(lengths) {
+            weekday = (weekday + length - 1) % 7 + 1;
+            let next = weekday % 7 + 1;
+            let last = format!("FE 04 70 {length:02X} {weekday:02X} {month:02X} {year:02X}");
+            data += &format!(
+                "{last} FE 04 70 {:02X} {next:02X} {month:02X} {year:02X}",
+                length + 1
+            );
+            reports += &format!("{last} {last}");
+        }
+        edges.expect(3, &data, &reports);
     }
 }
 

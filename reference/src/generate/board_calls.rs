@@ -46,6 +46,19 @@ impl Generator {
         hex::parse_field(answer.strip_prefix("response ")?)
     }
 
+    /// Sends as many of the commands as a packet can bear.
+    pub fn send_commands(&mut self, mut commands: Vec<Command>) {
+        let (id, password) = (self.rightful_id(), self.password());
+        while block::write_request(&commands).len() > room(&password) {
+            commands.pop();
+        }
+        let data = block::write_request(&commands);
+        let function = block::first_function(&commands);
+        let packet = packet::write(&id, &password, function, &data);
+        let response = self.send(&packet);
+        self.read_response_sometimes(&packet, response);
+    }
+
     /// An ID that the board takes from a rightful sender.
     pub fn rightful_id(&mut self) -> Vec<u8> {
         if self.session.record.mode == ACCESS_POINT && self.random.chance(40) {

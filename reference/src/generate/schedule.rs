@@ -3,7 +3,6 @@
 use super::{Generator, values};
 use crate::block::{self, Command};
 use crate::call::Call;
-use crate::packet;
 use crate::random::Random;
 use crate::schedule::{DAYS, Entry, FIELDS, NUMBER};
 
@@ -143,20 +142,6 @@ impl Generator {
             })
             .collect();
         self.send_commands(commands);
-    }
-
-    /// Sends as many of the commands as a packet can bear.
-    fn send_commands(&mut self, mut commands: Vec<Command>) {
-        let (id, password) = (self.rightful_id(), self.password());
-        let room = packet::LONGEST - packet::SHORTEST - password.len();
-        while block::write_request(&commands).len() > room {
-            commands.pop();
-        }
-        let data = block::write_request(&commands);
-        let function = block::first_function(&commands);
-        let packet = packet::write(&id, &password, function, &data);
-        let response = self.send(&packet);
-        self.read_response_sometimes(&packet, response);
     }
 
     /// Writes one entry past all checks, mostly so that the record becomes illegal.

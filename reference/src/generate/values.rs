@@ -1,6 +1,6 @@
 //! Values for rows: legal ones, those at the edges of each set, and those of a wrong length.
 
-use super::schedule;
+use super::{calendar, schedule};
 use crate::random::Random;
 use crate::rows::{self, Row, Values};
 use crate::schedule::NUMBER;
@@ -67,6 +67,7 @@ pub fn legal(random: &mut Random, row: &Row) -> Vec<u8> {
                 random.pick(&[*low, *high, any])
             })
             .collect(),
+        Values::Date => calendar::legal(random),
         Values::Text { shortest, longest } => {
             let any = random.between(*shortest, *longest);
             let length = random.pick(&[*shortest, *shortest + 1, *longest - 1, *longest, any]);
@@ -99,6 +100,7 @@ pub fn edge(random: &mut Random, row: &Row) -> Vec<u8> {
                 random.pick(&[low.wrapping_sub(1), high.wrapping_add(1), low, high, 255]);
             value
         }
+        Values::Date => calendar::edge(random),
         Values::Text { shortest, longest } => text_edge(random, row, *shortest, *longest),
     }
 }

@@ -1,9 +1,10 @@
 //! What calls meet of the weekly schedule: the outcome of each command on 0077, and what else names an entry.
 
-use crate::block::{self, Command};
+use super::{is_search, request};
+use crate::block::Command;
 use crate::call::{self, Call};
-use crate::packet::{self, CODE_WORD, LONGEST};
-use crate::record::{CLIENT, Record};
+use crate::packet::LONGEST;
+use crate::record::Record;
 use crate::replay::BAD_LINE;
 use crate::schedule::{self, Entry, FIELDS, Fault, Field, NUMBER, Request, Schedule};
 
@@ -132,18 +133,14 @@ fn packet_names(packet: &[u8], answer: &str, record: &Record) -> Vec<String> {
         let field = illegal_field(record).map(word);
         return Vec::from_iter(field.map(|field| format!("packet refused 70, bad {field}")));
     }
-    let Ok(frame) = packet::read(packet) else {
+    let Some((id, mut commands)) = request(packet) else {
         return Vec::new();
     };
-    let Some(request) = block::read_request(frame.function, frame.data) else {
-        return Vec::new();
-    };
-    let mut commands = request.commands;
     commands.retain(|command| command.number == NUMBER);
     if answer.starts_with("refused ") {
         return Vec::from_iter(refused_name(&commands, answer));
     }
-    if frame.id == CODE_WORD && record.mode == CLIENT {
+    if is_search(id, record) {
         return vec!["passed over in a search".to_string(); commands.len()];
     }
     let full = answer.len() == "response ".len() + 2 * LONGEST;
@@ -263,7 +260,8 @@ fn word(field: Field) -> &'static str {
 #[cfg(test)]
 mod tests {
     use super::*;
-    use crate::record::setup;
+    use crate::packet::{self, CODE_WORD};
+    use crate::record::{CLIENT, setup};
 
     const ID: [u8; 16] = *b"002D6E1B34565815";
 
