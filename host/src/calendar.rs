@@ -10,31 +10,43 @@ const CENTURY: u16 = 2000;
 
 const SECONDS_A_DAY: u64 = 24 * 60 * 60;
 
-/// `2026-11-16 monday`, of day, weekday, month and year.
+/// `2026-11-16 monday`, of day, weekday, month and year, where they are a date.
 pub fn show(bytes: &[u8]) -> Option<String> {
     let [_, weekday, _, _] = <[u8; 4]>::try_from(bytes).ok()?;
     let date = fields::show(&fields::DATE, bytes)?;
-    let weekday = entry::day_name(weekday)?;
-    Some(format!("{}{date} {weekday}", CENTURY / 100))
+    let text = format!("{}{date} {}", CENTURY / 100, entry::day_name(weekday)?);
+    parse(&text).is_ok().then_some(text)
 }
 
-/// The bytes of such a date; where the weekday is left out, it is the true one.
-pub fn parse(text: &str) -> Option<Vec<u8>> {
-    let (date, weekday) = match text.split_once(' ') {
-        Some((date, weekday)) => (date, Some(weekday)),
+/// The bytes of such a date, whose weekday may be left out. The error says what is wrong with one that is written so.
+pub fn parse(text: &str) -> Result<Vec<u8>, Option<String>> {
+    let ([day, _, month, short_year], named) = numbers_of(text).ok_or(None)?;
+    let year = CENTURY + u16::from(short_year);
+    let days = days_in(year, month);
+    if days < u64::from(day) {
+        return Err(Some(format!("{year}-{month:02} has {days} days")));
+    }
+    let weekday = weekday_of(year, month, day);
+    if named.is_some_and(|named| named != weekday) {
+        let name = entry::day_name(weekday).unwrap_or_default();
+        return Err(Some(format!("{year}-{month:02}-{day:02} is a {name}")));
+    }
+    Ok(vec![day, weekday, month, short_year])
+}
+
+/// The numbers of such a text but for the weekday, and the weekday that it names.
+fn numbers_of(text: &str) -> Option<([u8; 4], Option<u8>)> {
+    let (date, named) = match text.split_once(' ') {
+        Some((date, name)) => (date, Some(entry::day_number(name)?)),
         None => (text, None),
     };
-    let mut bytes = vec![0; 4];
+    let mut bytes = [0; 4];
     let short = date.strip_prefix("20").filter(|short| short.len() == 8)?;
     fields::parse(&fields::DATE, short, &mut bytes)?;
-    bytes[1] = match weekday {
-        Some(name) => entry::day_number(name)?,
-        None => weekday_of(CENTURY + u16::from(bytes[3]), bytes[2], bytes[0]),
-    };
-    Some(bytes)
+    Some((bytes, named))
 }
 
-/// 1 is Monday. A day past its month's end counts on into the next.
+/// 1 is Monday.
 fn weekday_of(year: u16, month: u8, day: u8) -> u8 {
     let days = days_before(year, month) + u64::from(day) - 1;
     // 1 January 1970 was a Thursday.
@@ -94,12 +106,11 @@ mod tests {
             ("2026-11-16", [16, 1, 11, 26]),
             ("2099-12-31", [31, 4, 12, 99]),
         ] {
-            assert_eq!(parse(text), Some(bytes.to_vec()), "{text}");
+            assert_eq!(parse(text), Ok(bytes.to_vec()), "{text}");
             let shown = show(&bytes).expect("a date");
             assert!(shown.starts_with(text), "{shown}");
-            assert_eq!(parse(&shown), Some(bytes.to_vec()));
+            assert_eq!(parse(&shown), Ok(bytes.to_vec()));
         }
-        assert_eq!(parse("2026-11-16 tuesday"), Some(vec![16, 2, 11, 26]));
         for bad in [
             "",
             "1999-01-01",
@@ -113,14 +124,29 @@ mod tests {
             "2026-11-16 moonday",
             "2026-11-16T00",
         ] {
-            assert_eq!(parse(bad), None, "{bad}");
+            assert_eq!(parse(bad), Err(None), "{bad}");
+        }
+    }
+
+    #[test]
+    fn a_day_that_does_not_exist_is_told_and_so_is_a_wrong_weekday() {
+        for (text, objection) in [
+            ("2001-02-29", "2001-02 has 28 days"),
+            ("2000-02-30 tuesday", "2000-02 has 29 days"),
+            ("2026-04-31", "2026-04 has 30 days"),
+            ("2026-11-16 tuesday", "2026-11-16 is a monday"),
+        ] {
+            assert_eq!(parse(text), Err(Some(objection.to_string())));
         }
         for bad in [
             [0, 1, 1, 0],
             [1, 0, 1, 0],
             [1, 8, 1, 0],
-            [1, 1, 13, 0],
-            [1, 1, 1, 100],
+            [1, 1, 1, 0],
+            [1, 6, 13, 0],
+            [1, 6, 1, 100],
+            [29, 4, 2, 1],
+            [31, 1, 4, 0],
         ] {
             assert_eq!(show(&bad), None, "{bad:?}");
         }

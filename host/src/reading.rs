@@ -16,7 +16,7 @@ pub enum Reading {
     Tenths,
     /// Several numbers, with a text that shows their form.
     Fields(&'static [Field], &'static str),
-    /// Day, weekday, month and year of the calendar.
+    /// Day, weekday, month and year of a date that exists.
     Date,
     Text,
     /// A board's ID.
@@ -117,9 +117,17 @@ impl Reading {
                 let mut bytes = vec![0; size];
                 fields::parse(fields, text, &mut bytes).map(|()| bytes)
             }
-            Reading::Date => calendar::parse(text),
+            Reading::Date => calendar::parse(text).ok(),
             Reading::Text => Some(text.as_bytes().to_vec()),
             Reading::Identity | Reading::Entry | Reading::Hex => None,
+        }
+    }
+
+    /// What is wrong with a text that is written as `form` says and is no value.
+    pub fn objection(self, text: &str) -> Option<String> {
+        match self {
+            Reading::Date => calendar::parse(text).err()?,
+            _ => None,
         }
     }
 

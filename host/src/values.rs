@@ -70,15 +70,22 @@ fn parse_reading(row: &Row, text: &str) -> Result<Vec<u8>, String> {
     if row.access == Access::Invert && text == "invert" {
         return Ok(vec![INVERT]);
     }
-    match row.reading.parse(text, *row.size.range().start()) {
-        Some(bytes) => sized(bytes),
-        None => Err(format!(
-            "`{text}` is no value of {}: write {}, or bytes like 0x{}",
-            rows::title(row.number),
-            row.form(),
-            "00".repeat(*row.size.range().start())
-        )),
+    let size = *row.size.range().start();
+    if let Some(bytes) = row.reading.parse(text, size) {
+        return sized(bytes);
     }
+    let forms = || {
+        format!(
+            "write {}, or bytes like 0x{}",
+            row.form(),
+            "00".repeat(size)
+        )
+    };
+    let reason = row.reading.objection(text).unwrap_or_else(forms);
+    Err(format!(
+        "`{text}` is no value of {}: {reason}",
+        rows::title(row.number)
+    ))
 }
 
 #[cfg(test)]
@@ -136,6 +143,8 @@ mod tests {
             "0x0002=0x0g",
             "0x0077=1",
             "0x0070=1",
+            "rtc-calendar=2026-02-29",
+            "rtc-calendar=2026-11-16 tuesday",
             "0x0095=",
             "0x0095=text:",
             "0x0101=7",

@@ -293,6 +293,14 @@ fn bad_arguments_are_one_line() {
             with("set", &["0x0070=1"]),
             "`1` is no value of rtc-calendar",
         ),
+        (
+            with("set", &["unit-on-off=on", "rtc-calendar=2026-02-29"]),
+            "`2026-02-29` is no value of rtc-calendar (0x0070): 2026-02 has 28 days",
+        ),
+        (
+            with("set", &["rtc-calendar=2026-11-16 tuesday"]),
+            "`2026-11-16 tuesday` is no value of rtc-calendar (0x0070): 2026-11-16 is a monday",
+        ),
         (with("set", &["0x0077=1"]), "`udgornwy schedule set`"),
         (with("get", &["0x0077"]), "`udgornwy schedule get`"),
         (with("get", &["-t", "0", "0x0001"]), "-t takes"),
