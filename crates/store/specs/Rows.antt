@@ -14,7 +14,7 @@ use Rattle.store.specs.declared.Range.{Range}
 --   Text n m: n to m characters, each a byte from 20 to 7E
 --   Free n: any n bytes
 --   Clock: seconds, minutes, hours
---   Calendar: day, weekday, month, year
+--   Calendar: a date, as day, weekday, month and year
 pub data Set : Type 0 where
   Switch : Set
   Number : ℕ → Range → Set
