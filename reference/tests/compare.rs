@@ -3,24 +3,35 @@
 use std::fs;
 use std::os::unix::fs::PermissionsExt;
 use std::path::PathBuf;
-use std::process::{Command, Output};
+use std::process::{Command, Output, Stdio};
+use std::sync::{Mutex, PoisonError};
 
 const REFERENCE: &str = env!("CARGO_BIN_EXE_reference");
+
+/// No process is started while a program is written: it would hold the file open, and the system runs no file that is being written.
+static STARTING: Mutex<()> = Mutex::new(());
 
 /// A replay program made of a shell command; `$REFERENCE` stands for this implementation.
 fn program(name: &str, command: &str) -> PathBuf {
     let path = PathBuf::from(env!("CARGO_TARGET_TMPDIR")).join(name);
     let text = format!("#!/bin/sh\nREFERENCE='{REFERENCE}'\n{command}\n");
+    let _writing = STARTING.lock().unwrap_or_else(PoisonError::into_inner);
     fs::write(&path, text).unwrap();
     fs::set_permissions(&path, fs::Permissions::from_mode(0o755)).unwrap();
     path
 }
 
 fn compare(seed: &str, count: &str, program: &str) -> Output {
-    Command::new(REFERENCE)
+    let starting = STARTING.lock().unwrap_or_else(PoisonError::into_inner);
+    let process = Command::new(REFERENCE)
         .args(["compare", seed, count, program])
-        .output()
-        .unwrap()
+        .stdin(Stdio::null())
+        .stdout(Stdio::piped())
+        .stderr(Stdio::piped())
+        .spawn()
+        .unwrap();
+    drop(starting);
+    process.wait_with_output().unwrap()
 }
 
 /// Compares with a shell command that must differ; gives the shortest list and the two answers.
