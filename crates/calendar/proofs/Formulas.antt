@@ -14,11 +14,11 @@ use Rattle.octets.proofs.Booleans.{both-true}
 use Rattle.calendar.specs.Dates.{daysIn, daysOfMonths, daysOfYears}
 
 -- a test of each number below a bound
-everyBelow : ℕ → (ℕ → Bool) → Bool
+unfoldable pub everyBelow : ℕ → (ℕ → Bool) → Bool
 everyBelow zero f = true
 everyBelow (suc n) f = f n && everyBelow n f
 
-at-each : (n : ℕ) (f : ℕ → Bool) → everyBelow n f ≡ true → (k : ℕ) → k < n → f k ≡ true
+pub at-each : (n : ℕ) (f : ℕ → Bool) → everyBelow n f ≡ true → (k : ℕ) → k < n → f k ≡ true
 unfolding everyBelow
 at-each zero f all k h = absurd (not-suc-le-zero h)
 at-each (suc n) f all k h =

@@ -10,13 +10,13 @@ use Rattle.octets.specs.Octets.{between}
 abbrev pub isLeap : ℕ → Bool
 isLeap year = eqb (year % 4) 0 && (not (eqb (year % 100) 0) || eqb (year % 400) 0)
 
--- the days of January, February and so on
-abbrev pub monthLengths : ℕ → List ℕ
-monthLengths year = 31 ∷ cond (isLeap year) 29 28 ∷ 31 ∷ 30 ∷ 31 ∷ 30 ∷ 31 ∷ 31 ∷ 30 ∷ 31 ∷ 30 ∷ 31 ∷ []
+-- the days of January, February and so on, in a leap year or in another
+abbrev pub monthLengths : Bool → List ℕ
+monthLengths leap = 31 ∷ cond leap 29 28 ∷ 31 ∷ 30 ∷ 31 ∷ 30 ∷ 31 ∷ 31 ∷ 30 ∷ 31 ∷ 30 ∷ 31 ∷ []
 
 -- January is month 1
 abbrev pub daysIn : ℕ → ℕ → ℕ
-daysIn year month = getD (monthLengths year) (month - 1) 0
+daysIn year month = getD (monthLengths (isLeap year)) (month - 1) 0
 
 -- the days of a year's first months
 unfoldable pub daysOfMonths : ℕ → ℕ → ℕ
@@ -32,9 +32,12 @@ daysOfYears (suc years) = daysOfYears years + daysOfMonths (2000 + years) 12
 abbrev pub daysTo : ℕ → ℕ → ℕ → ℕ
 daysTo year month day = daysOfYears year + daysOfMonths (2000 + year) (month - 1) + (day - 1)
 
--- 1 is Monday, 7 Sunday; 1 January 2000 was a Saturday, 5 days after a Monday
+-- so many days after 1 January 2000, which was a Saturday, 5 days after a Monday; 1 is Monday, 7 Sunday
+abbrev pub weekdayAfter : ℕ → ℕ
+weekdayAfter days = 1 + (5 + days) % 7
+
 abbrev pub weekdayOf : ℕ → ℕ → ℕ → ℕ
-weekdayOf year month day = 1 + (5 + daysTo year month day) % 7
+weekdayOf year month day = weekdayAfter (daysTo year month day)
 
 -- the day exists in its month, and the weekday is its own
 abbrev pub isDate : ℕ → ℕ → ℕ → ℕ → Bool

@@ -1,4 +1,4 @@
-//! Every row: the edges of its set, raises and lowers through the whole of it, texts and clocks.
+//! Every row: the edges of its set, raises and lowers through the whole of it, clock, calendar and texts.
 
 use super::{Edges, ID, PASSWORD};
 
