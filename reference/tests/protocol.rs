@@ -204,35 +204,22 @@ fn listed_days(month: u16, is_leap: bool) -> u8 {
     days.parse().expect("a number")
 }
 
-/// Every month's days and one more, the weekdays counted on from the Saturday of 1 January 2000.
+/// Each month's days with their weekdays, counted on from the Saturday of 1 January 2000, and no day before or after them.
 fn holds_dates(row: &Row) {
     let mut record = start();
     let mut weekday = 6;
-    for year in 0..=99 {
-        let is_leap = year % 4 == 0;
-        for month in 1..=12 {
-            let days = listed_days(month.into(), is_leap);
-            for day in 1..=days {
-                assert!(is_held(
-                    &mut record,
-                    row.number,
-                    &[day, weekday, month, year]
-                ));
-                weekday = weekday % 7 + 1;
-                assert!(!is_held(
-                    &mut record,
-                    row.number,
-                    &[day, weekday, month, year]
-                ));
-            }
-            for day in [0, days + 1] {
-                assert!(!is_held(
-                    &mut record,
-                    row.number,
-                    &[day, weekday, month, year]
-                ));
-            }
+    for (year, month) in (0..=99).flat_map(|year| (1..=12).map(move |month| (year, month))) {
+        let days = listed_days(month.into(), year % 4 == 0);
+        let mut is_date = |day, weekday| {
+            let value = [day, weekday, month, year];
+            is_held(&mut record, row.number, &value)
+        };
+        for day in 1..=days {
+            assert!(is_date(day, weekday), "{day} {month} {year}");
+            weekday = weekday % 7 + 1;
+            assert!(!is_date(day, weekday), "{day} {month} {year}");
         }
+        assert!(!is_date(0, weekday) && !is_date(days + 1, weekday));
     }
 }
 
