@@ -89,7 +89,10 @@ fn outcomes(value: [u8; 4]) -> Vec<&'static str> {
 
 #[cfg(test)]
 mod tests {
+    use std::collections::BTreeSet;
+
     use super::*;
+    use crate::generate;
     use crate::packet;
     use crate::record::{CLIENT, setup};
 
@@ -123,6 +126,25 @@ mod tests {
             assert!(names(&packet::CODE_WORD, &data, "silence").is_empty());
         }
         assert!(names(&ID, &[0xFE, 3, 0x70, 1, 6, 1], "response 00").is_empty());
+    }
+
+    #[test]
+    fn generated_lists_meet_every_february() {
+        let mut years = BTreeSet::new();
+        for line in generate::list(1, 40_000) {
+            let Some(Call::Packet { packet, .. }) = call::parse(&line) else {
+                continue;
+            };
+            let commands = request(&packet).map_or(Vec::new(), |(_, commands)| commands);
+            let writes = commands
+                .iter()
+                .filter(|command| command.number == CALENDAR_ROW);
+            years.extend(writes.filter_map(|command| match command.value[..] {
+                [29, _, 2, year] => Some(year),
+                _ => None,
+            }));
+        }
+        assert!((0..=99).all(|year| years.contains(&year)), "{years:?}");
     }
 
     #[test]
