@@ -24,7 +24,7 @@ pub fn legal(random: &mut Random) -> Vec<u8> {
     vec![day, weekday_of(day, month, year), month, year]
 }
 
-/// A date with one byte changed: off by a day, another weekday, or a byte out of its range.
+/// A date off by a day, the day after the last of a month, another weekday, or a byte out of its range; now and then a date.
 pub fn edge(random: &mut Random) -> Vec<u8> {
     let mut value = legal(random);
     let next_weekday = value[1] % 7 + 1;
