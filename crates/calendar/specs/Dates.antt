@@ -32,14 +32,14 @@ daysOfYears (suc years) = daysOfYears years + daysOfMonths (2000 + years) 12
 abbrev pub daysTo : ℕ → ℕ → ℕ → ℕ
 daysTo year month day = daysOfYears year + daysOfMonths (2000 + year) (month - 1) + (day - 1)
 
--- so many days after 1 January 2000, which was a Saturday, 5 days after a Monday; 1 is Monday, 7 Sunday
+-- 1 is Monday, 7 Sunday; 1 January 2000 was a Saturday
 abbrev pub weekdayAfter : ℕ → ℕ
 weekdayAfter days = 1 + (5 + days) % 7
 
 abbrev pub weekdayOf : ℕ → ℕ → ℕ → ℕ
 weekdayOf year month day = weekdayAfter (daysTo year month day)
 
--- the day exists in its month, and the weekday is its own
+-- a legal calendar value of the papers: the day exists in its month, and the weekday is its own
 abbrev pub isDate : ℕ → ℕ → ℕ → ℕ → Bool
 isDate day weekday month year =
     leb year 99 && between 1 12 month && between 1 (daysIn (2000 + year) month) day && eqb weekday (weekdayOf year month day)
