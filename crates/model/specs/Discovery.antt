@@ -11,7 +11,8 @@ use Rattle.framing.specs.Packet.{frameOf}
 use Rattle.framing.specs.Refusal.{Refusal, refusal, firstRefusal}
 use Rattle.block.specs.Command.{Report}
 use Rattle.block.specs.Encoding.{encodeReports}
-use Rattle.model.specs.Conditions.{commandsIn, noFunction, noCommands, otherThanReads}
+use Rattle.block.specs.Request.{noFunction, noCommands}
+use Rattle.model.specs.Conditions.{commandsIn, otherThanReads}
 use Rattle.model.specs.Commands.{discoverReports}
 use Rattle.model.specs.declared.Answer.{Answer}
 use Rattle.model.specs.declared.Answer.the-variants.{Refused, Silence, Response}
@@ -42,8 +43,8 @@ foundResponse d = frame (d .id) (d .asked .password) 0x06 (encodeReports 0 (foun
 
 unfoldable pub discoveryRefusals : List (Refusal Discovery)
 discoveryRefusals =
-    refusal 9 (λ (d : Discovery). noFunction (d .asked))
-    ∷ refusal 10 (λ (d : Discovery). noCommands (d .asked))
+    refusal 9 (λ (d : Discovery). noFunction (d .asked .function))
+    ∷ refusal 10 (λ (d : Discovery). noCommands (d .asked .function) (d .asked .block))
     ∷ refusal 11 (λ (d : Discovery). otherThanReads (d .asked))
     ∷ refusal 12 (λ (d : Discovery). ltb 256 (packetLength (foundResponse d)))
     ∷ []

@@ -13,7 +13,8 @@ use Rattle.framing.specs.Packet.{packetRefusals, frameOf}
 use Rattle.framing.specs.Refusal.{Refusal, refusal, refusalOf, firstRefusal}
 use Rattle.block.specs.Command.{Command, Report}
 use Rattle.block.specs.Encoding.{encodeReports}
-use Rattle.model.specs.Conditions.{discoversIn, commandsIn, noFunction, noCommands, otherThanReads}
+use Rattle.block.specs.Request.{noFunction, noCommands}
+use Rattle.model.specs.Conditions.{discoversIn, commandsIn, otherThanReads}
 use Rattle.model.specs.Commands.{run, runReports, discoverReports}
 use Rattle.model.specs.Record.{sound, passwordOf, withParameters}
 use Rattle.model.specs.declared.Answer.{Answer}
@@ -72,10 +73,10 @@ abbrev pub wrongPassword : Request → Bool
 wrongPassword r = not (isDiscovery r) && not (same (r .frame .password) (passwordOf (r .board)))
 
 abbrev pub wrongFunction : Request → Bool
-wrongFunction r = noFunction (r .frame)
+wrongFunction r = noFunction (r .frame .function)
 
 abbrev pub malformed : Request → Bool
-malformed r = noCommands (r .frame)
+malformed r = noCommands (r .frame .function) (r .frame .block)
 
 abbrev pub discoveryWrites : Request → Bool
 discoveryWrites r = isDiscovery r && otherThanReads (r .frame)

@@ -1,0 +1,69 @@
+-- Laws of numbers of several bytes.
+use Prim.Native.Nat.{ℕ, zero, suc, _+_, _*_, _/_, _%_, _^_, _<_, _≤_}
+use native.Mathlib.Nat.{pow-suc, div-add-mod', div-lt-iff-lt-mul}
+use native.Mathlib.Numerals.{add-one}
+use native.Mathlib.Omega.{arith}
+use mathlib.Core.List.{List, [], _∷_, _++_}
+use mathlib.Core.Path.{_≡_, refl, ap, _∙_}
+use lib.ListN.{length, take, drop, getD, length-drop}
+use lib.Seq.{drop-cons, take-append-le, drop-append-le, take-at, drop-at}
+use Rattle.captures.specs.Numbers.{numberOf, bytesOf, field}
+
+-- a number's bytes are as many as asked for, and give it back where it has room in them
+pub length-bytes : (size number : ℕ) → length (bytesOf size number) ≡ size
+unfolding bytesOf
+length-bytes zero number = refl
+length-bytes (suc size) number = ap suc (length-bytes size (number / 256))
+
+pub number-back : (size number : ℕ) → number < 256 ^ size → numberOf (bytesOf size number) ≡ number
+unfolding bytesOf numberOf
+number-back zero number h = omega (arith, h)
+number-back (suc size) number h =
+    let less : number < 256 ^ size * 256 = rw pow-suc at h in
+    let high : numberOf (bytesOf size (number / 256)) ≡ number / 256 = number-back size (number / 256) (div-lt-iff-lt-mul (omega arith) .1 less) in
+    omega (arith, high, div-add-mod' number 256)
+
+-- bytes are those of their number
+pub bytes-back : (bytes : List ℕ) → ((place : ℕ) → getD bytes place 0 < 256) → bytesOf (length bytes) (numberOf bytes) ≡ bytes
+unfolding bytesOf numberOf
+bytes-back [] small = refl
+bytes-back (byte ∷ bytes) small =
+    let first : byte < 256 = small 0 in
+    let low : (byte + 256 * numberOf bytes) % 256 ≡ byte = omega arith in
+    let high : (byte + 256 * numberOf bytes) / 256 ≡ numberOf bytes = omega arith in
+    λ i. low i ∷ (ap (bytesOf (length bytes)) high ∙ bytes-back bytes (λ place. small (suc place))) i
+
+-- the first byte of a field, and the others
+pub field-more : (at size : ℕ) (l : List ℕ) → at < length l → field at (suc size) l ≡ getD l at 0 + 256 * field (at + 1) size l
+unfolding numberOf
+field-more at size l h = rw (add-one, drop-cons l at 0 h)
+
+-- past the end a byte counts as 0
+pub field-one : (at : ℕ) (l : List ℕ) → field at 1 l ≡ getD l at 0
+unfolding numberOf
+field-one zero [] = refl
+field-one (suc at) [] = refl
+field-one zero (byte ∷ bytes) = omega arith
+field-one (suc at) (byte ∷ bytes) = field-one at bytes
+
+pub field-two : (at : ℕ) (l : List ℕ) → at + 2 ≤ length l → field at 2 l ≡ getD l at 0 + 256 * getD l (at + 1) 0
+field-two at l h = field-more at 1 l (omega arith) ∙ ap (λ (n : ℕ). getD l at 0 + 256 * n) (field-one (at + 1) l)
+
+twice : (at : ℕ) → at + 1 + 1 ≡ at + 2
+twice at = omega arith
+
+pub field-four : (at : ℕ) (l : List ℕ) → at + 4 ≤ length l → field at 4 l ≡ field at 2 l + 65536 * field (at + 2) 2 l
+field-four at l h =
+    let first : field at 4 l ≡ getD l at 0 + 256 * field (at + 1) 3 l = field-more at 3 l (omega arith) in
+    let second : field (at + 1) 3 l ≡ getD l (at + 1) 0 + 256 * field (at + 1 + 1) 2 l = field-more (at + 1) 2 l (omega arith) in
+    let there : field (at + 1 + 1) 2 l ≡ field (at + 2) 2 l = ap (λ (n : ℕ). field n 2 l) (twice at) in
+    omega (arith, field-two at l (omega arith))
+
+-- a field looks no further than its bytes
+pub field-front : (at size : ℕ) (l more : List ℕ) → at + size ≤ length l → field at size (l ++ more) ≡ field at size l
+field-front at size l more h =
+    rw (drop-append-le at l more (omega arith), take-append-le size (drop at l) more (simp length-drop (omega arith)))
+
+-- a field that stands after others
+pub field-at : (before bytes after : List ℕ) {at size : ℕ} → length before ≡ at → length bytes ≡ size → field at size (before ++ (bytes ++ after)) ≡ numberOf bytes
+field-at before bytes after {at} {size} e f = rw (drop-at before (bytes ++ after) at e, take-at bytes after size f)

@@ -1,0 +1,5 @@
+pub mod Numbers
+pub mod Form
+pub mod Reading
+pub mod Writing
+pub mod Statements

@@ -1,0 +1,88 @@
+-- What holds of captures, beside the contracts.
+use Prim.Native.Nat.{ℕ, _+_, _-_, _*_, _^_, _<_, _≤_}
+use mathlib.Core.Bool.{true, false}
+use mathlib.Core.List.{List, [], _∷_, _++_}
+use mathlib.Core.Option.{none}
+use mathlib.Core.Path.{_≡_}
+use lib.ListN.{length, take, drop, getD}
+use Rattle.captures.specs.Form.{Record, recordOf, boardLimit, idsAt, recordBytes, boardsOf, headBytes, captureBytes}
+use Rattle.captures.specs.Reading.{Reading, left, wrong, item, boardCount, recordsAt, read, readIn, headRefusal, captureRefusal, idsIn, recordsIn, openedOf, nextRecord}
+use Rattle.captures.specs.Writing.{wrongIds, everyInRange, WriteCall, recordsGiven, writeRefusal}
+use Rattle.captures.specs.declared.reading.NextRecord.{NextRecord}
+use Rattle.captures.specs.declared.reading.NextRecord.the-variants as next
+
+-- each counter has room in four bytes
+unfoldable pub countersFit : List Record → Type 0
+countersFit [] = Unit {0}
+countersFit (r ∷ rs) = (r .counter < 256 ^ 4) × countersFit rs
+
+-- reading what was written gives the same IDs and records, whatever bytes their packets are
+pub record ReadsBack (ids : List ℕ) (records : List Record) : Type 0 where
+  pub accepted : captureRefusal (captureBytes ids records) ≡ none
+  pub ids-back : idsIn (captureBytes ids records) ≡ ids
+  pub records-back : recordsIn (captureBytes ids records) ≡ records
+
+abbrev pub ReadsWritten : Type 0
+ReadsWritten =
+    (ids : List ℕ) (records : List Record) → wrongIds ids ≡ false → everyInRange (boardsOf ids) records ≡ true → countersFit records
+    → ReadsBack ids records
+
+-- and so of every call of `write` that is not refused
+abbrev pub CallsReadBack : Type 0
+CallsReadBack =
+    (call : WriteCall) → ((place : ℕ) → getD (call .counters) place 0 < 256 ^ 4) → writeRefusal call ≡ none
+    → ReadsBack (call .ids) (recordsGiven call)
+
+-- an accepted capture is the bytes of what was read
+abbrev pub WritesRead : Type 0
+WritesRead =
+    (capture : List ℕ) → ((place : ℕ) → getD capture place 0 < 256) → captureRefusal capture ≡ none
+    → captureBytes (idsIn capture) (recordsIn capture) ≡ capture
+
+-- the capture of no records is its head, and that of one record more has the bytes of that record behind it
+pub record Appends (ids : List ℕ) : Type 0 where
+  pub none-yet : captureBytes ids [] ≡ headBytes ids
+  pub one-more : (records : List Record) (r : Record) → captureBytes ids (records ++ r ∷ []) ≡ captureBytes ids records ++ recordBytes r
+
+abbrev pub RecordsAppend : Type 0
+RecordsAppend = (ids : List ℕ) → Appends ids
+
+-- reading that goes on with more bytes: what was left is put before them
+unfoldable pub resumed : ℕ → Reading → List ℕ → Reading
+resumed boards (left bytes) more = read boards (bytes ++ more)
+resumed boards wrong more = wrong
+resumed boards (item r after) more = item r (resumed boards after more)
+
+-- with one piece after another
+unfoldable pub resumedBy : ℕ → Reading → List (List ℕ) → Reading
+resumedBy boards so-far [] = so-far
+resumedBy boards so-far (piece ∷ pieces) = resumedBy boards (resumed boards so-far piece) pieces
+
+unfoldable pub joined : List (List ℕ) → List ℕ
+joined [] = []
+joined (piece ∷ pieces) = piece ++ joined pieces
+
+-- the most bytes that stand before the records
+abbrev pub longestHead : ℕ
+longestHead = idsAt + 16 * boardLimit
+
+-- however a capture is cut into pieces: its head is decided by a first one that is long enough, and the records are read in turn
+pub record InPieces (front : List ℕ) (pieces : List (List ℕ)) : Type 0 where
+  pub head-told : openedOf (front ++ joined pieces) ≡ openedOf front
+  pub records-read :
+      headRefusal front ≡ none → readIn (front ++ joined pieces) ≡ resumedBy (boardCount front) (readIn front) pieces
+
+abbrev pub PiecesRead : Type 0
+PiecesRead = (front : List ℕ) (pieces : List (List ℕ)) → longestHead ≤ length front → InPieces front pieces
+
+-- reading is taking what stands first again and again
+abbrev pub readAfter : (List ℕ → Reading) → List ℕ → NextRecord → Reading
+readAfter again bytes next.End = left []
+readAfter again bytes next.Cut = left bytes
+readAfter again bytes next.Wrong = wrong
+readAfter again bytes (next.Record index direction counter packet rest) =
+    item (recordOf index direction counter (take (packet - rest) (drop (length bytes - packet) bytes)))
+    (again (drop (length bytes - rest) bytes))
+
+abbrev pub ReadStep : Type 0
+ReadStep = (boards : ℕ) (bytes : List ℕ) → read boards bytes ≡ readAfter (read boards) bytes (nextRecord boards bytes)
