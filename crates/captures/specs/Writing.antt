@@ -6,8 +6,7 @@ use mathlib.Core.Option.{Option, none, some}
 use mathlib.Core.Path.{_≡_}
 use lib.Dec.{ltb, eqb}
 use lib.ListN.{length, take, drop}
-use Rattle.octets.specs.Octets.{overwrite}
-use Rattle.framing.specs.Checksum.{sum}
+use Rattle.octets.specs.Octets.{overwrite, sum}
 use Rattle.framing.specs.Refusal.{Refusal, refusal, firstRefusal}
 use Rattle.captures.specs.Form.{Record, recordOf, recordBytes, boardsOf, headBytes, captureBytes, wrongCount, fieldsInRange}
 use Rattle.captures.specs.declared.writing.Written.{Written}
@@ -32,9 +31,8 @@ pub record Writes (refused : Option ℕ) (bytes buffer : List ℕ) (answer : Wri
 abbrev pub wrongIds : List ℕ → Bool
 wrongIds ids = not (eqb (length ids % 16) 0) || wrongCount (boardsOf ids)
 
--- 53
-abbrev pub wrongFields : ℕ → Record → Bool
-wrongFields boards r = not (fieldsInRange boards (r .index) (r .direction) (length (r .packet)))
+abbrev pub recordInRange : ℕ → Record → Bool
+recordInRange boards r = fieldsInRange boards (r .index) (r .direction) (length (r .packet))
 
 -- 54
 abbrev pub tooShort : List ℕ → List ℕ → Bool
@@ -69,7 +67,7 @@ recordCall buffer boards given = record { buffer = buffer; boards = boards; give
 unfoldable pub recordCallRefusals : List (Refusal RecordCall)
 recordCallRefusals =
     refusal 52 (λ (call : RecordCall). wrongCount (call .boards))
-    ∷ refusal 53 (λ (call : RecordCall). wrongFields (call .boards) (call .given))
+    ∷ refusal 53 (λ (call : RecordCall). not (recordInRange (call .boards) (call .given)))
     ∷ refusal 54 (λ (call : RecordCall). tooShort (call .buffer) (recordBytes (call .given)))
     ∷ []
 
@@ -116,23 +114,24 @@ describesRecords indexes directions counters lengths packets =
     eqb (length directions) (length indexes) && eqb (length counters) (length indexes)
     && eqb (length lengths) (length indexes) && eqb (sum lengths) (length packets)
 
+pub record SideBySide (indexes directions counters lengths : List ℕ) : Type 0 where
+  pub directions-count : length directions ≡ length indexes
+  pub counters-count : length counters ≡ length indexes
+  pub lengths-count : length lengths ≡ length indexes
+
 unfoldable pub everyInRange : ℕ → List Record → Bool
 everyInRange boards [] = true
-everyInRange boards (r ∷ rs) = not (wrongFields boards r) && everyInRange boards rs
-
--- 53: the slices describe no records, or one has a field outside its range
-abbrev pub wrongRecords : WriteCall → Bool
-wrongRecords call =
-    not (describesRecords (call .indexes) (call .directions) (call .counters) (call .lengths) (call .packets)
-    && everyInRange (boardsOf (call .ids)) (recordsGiven call))
+everyInRange boards (r ∷ rs) = recordInRange boards r && everyInRange boards rs
 
 abbrev pub bytesGiven : WriteCall → List ℕ
 bytesGiven call = captureBytes (call .ids) (recordsGiven call)
 
+-- 53 is for slices that describe no records, and for a field outside its range
 unfoldable pub writeRefusals : List (Refusal WriteCall)
 writeRefusals =
     refusal 52 (λ (call : WriteCall). wrongIds (call .ids))
-    ∷ refusal 53 wrongRecords
+    ∷ refusal 53 (λ (call : WriteCall). not (describesRecords (call .indexes) (call .directions) (call .counters) (call .lengths) (call .packets)))
+    ∷ refusal 53 (λ (call : WriteCall). not (everyInRange (boardsOf (call .ids)) (recordsGiven call)))
     ∷ refusal 54 (λ (call : WriteCall). tooShort (call .buffer) (bytesGiven call))
     ∷ []
 

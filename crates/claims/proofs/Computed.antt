@@ -1,7 +1,8 @@
 -- The worked examples hold, by computation.
 use mathlib.Core.Path.{refl}
 use Rattle.octets.specs.Octets.{same}
-use Rattle.framing.specs.Checksum.{sum, checksum}
+use Rattle.octets.specs.Octets.{sum}
+use Rattle.framing.specs.Checksum.{checksum}
 use Rattle.framing.specs.Identity.{defaultId, allAlphanumeric}
 use Rattle.framing.specs.Packet.{packetRefusals, packetRefusal}
 use Rattle.framing.specs.Refusal.{firstRefusal}
