@@ -1,5 +1,5 @@
 -- What the writers leave in a buffer.
-use Prim.Native.Nat.{ℕ, _+_, _<_, _≤_}
+use Prim.Native.Nat.{ℕ, _+_, _≤_}
 use native.Mathlib.Numerals.{unary-clauses}
 use native.Mathlib.Omega.{arith}
 use mathlib.Core.Bool.{Bool, true, false}
@@ -7,7 +7,7 @@ use mathlib.Core.List.{List, [], _∷_, _++_, append-nil}
 use mathlib.Core.Option.{Option, none, some}
 use mathlib.Core.Path.{_≡_, sym, ap, _∙_}
 use borrow.Author.Tests.{leb-false, leb-true, lt-ltb, le-ltb}
-use lib.ListN.{length, take, drop, length-append, take-append-drop}
+use lib.ListN.{length, length-append, take-append-drop}
 use Rattle.octets.specs.Octets.{overwrite, Overwrites, fits}
 use Rattle.octets.proofs.Overwriting.{overwrites, overwrite-after, length-overwrite}
 use Rattle.framing.specs.Refusal.{Refusal, firstRefusal}

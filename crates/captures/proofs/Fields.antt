@@ -4,9 +4,9 @@ use native.Mathlib.Nat.{pow-suc, div-add-mod', div-lt-iff-lt-mul}
 use native.Mathlib.Numerals.{add-one}
 use native.Mathlib.Omega.{arith}
 use mathlib.Core.List.{List, [], _∷_, _++_}
-use mathlib.Core.Path.{_≡_, refl, ap, _∙_}
+use mathlib.Core.Path.{_≡_, refl, sym, ap, _∙_}
 use lib.ListN.{length, take, drop, getD, length-drop}
-use lib.Seq.{drop-cons, take-append-le, drop-append-le, take-at, drop-at}
+use lib.Seq.{drop-cons, take-append-le, drop-append-le, take-at, drop-at, length-take-le, getD-drop}
 use Rattle.captures.specs.Numbers.{numberOf, bytesOf, field}
 
 -- a number's bytes are as many as asked for, and give it back where it has room in them
@@ -67,3 +67,20 @@ field-front at size l more h =
 -- a field that stands after others
 pub field-at : (before bytes after : List ℕ) {at size : ℕ} → length before ≡ at → length bytes ≡ size → field at size (before ++ (bytes ++ after)) ≡ numberOf bytes
 field-at before bytes after {at} {size} e f = rw (drop-at before (bytes ++ after) at e, take-at bytes after size f)
+
+-- a part of bytes is bytes
+taken-small : (size : ℕ) (l : List ℕ) → ((place : ℕ) → getD l place 0 < 256) → (place : ℕ) → getD (take size l) place 0 < 256
+taken-small zero l small place = omega arith
+taken-small (suc size) [] small place = omega arith
+taken-small (suc size) (byte ∷ bytes) small zero = small zero
+taken-small (suc size) (byte ∷ bytes) small (suc place) = taken-small size bytes (λ p. small (suc p)) place
+
+pub dropped-small : (at : ℕ) (l : List ℕ) → ((place : ℕ) → getD l place 0 < 256) → (place : ℕ) → getD (drop at l) place 0 < 256
+dropped-small at l small place = rw (getD-drop at l place 0) (small (at + place))
+
+-- the bytes of a field's number are those that stand there
+pub field-bytes :
+    (at size : ℕ) (l : List ℕ) → ((place : ℕ) → getD l place 0 < 256) → at + size ≤ length l → bytesOf size (field at size l) ≡ take size (drop at l)
+field-bytes at size l small h =
+    let whole : length (take size (drop at l)) ≡ size = length-take-le size (drop at l) (simp length-drop (omega arith)) in
+    ap (λ (n : ℕ). bytesOf n (field at size l)) (sym whole) ∙ bytes-back (take size (drop at l)) (taken-small size (drop at l) (dropped-small at l small))

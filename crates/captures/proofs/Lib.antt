@@ -4,3 +4,7 @@ pub mod Records
 pub mod Lists
 pub mod Buffers
 pub mod Calls
+pub mod ReadsWritten
+pub mod Appending
+pub mod Pieces
+pub mod WritesRead

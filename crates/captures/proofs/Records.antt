@@ -1,15 +1,15 @@
 -- Reading records one after another, in pieces too.
 use Prim.Native.Nat.{ℕ, zero, suc, _+_, _-_, _≤_}
 use native.Mathlib.Omega.{arith}
-use mathlib.Core.Bool.{Bool, true, false, cond, not, _&&_}
+use mathlib.Core.Bool.{Bool, true, false}
 use mathlib.Core.List.{List, [], _∷_, _++_}
 use mathlib.Core.Path.{_≡_, refl, sym, ap, _∙_}
 use borrow.Author.Tests.{ltb-false, le-ltb, ne-eqb}
-use lib.Dec.{ltb, eqb}
+use lib.Dec.{ltb}
 use lib.ListN.{length, take, drop, length-append, length-drop}
 use lib.Seq.{take-append-le, drop-append-le}
 use Rattle.captures.specs.Form.{indexSize, directionAt, counterAt, sizeAt, packetAt, recordOf, fieldsInRange}
-use Rattle.captures.specs.Reading.{indexIn, directionIn, counterIn, sizeIn, recordIn, inRange, Reading, left, wrong, item, reading, read, nextRecord}
+use Rattle.captures.specs.Reading.{indexIn, directionIn, counterIn, sizeIn, recordIn, inRange, item, reading, read, nextRecord}
 use Rattle.captures.specs.Statements.{resumed, readAfter, ReadStep}
 use Rattle.captures.proofs.Fields.{field-front}
 

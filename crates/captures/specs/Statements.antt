@@ -6,7 +6,7 @@ use mathlib.Core.Option.{none}
 use mathlib.Core.Path.{_≡_}
 use lib.ListN.{length, take, drop, getD}
 use Rattle.captures.specs.Form.{Record, recordOf, boardLimit, idsAt, recordBytes, boardsOf, headBytes, captureBytes}
-use Rattle.captures.specs.Reading.{Reading, left, wrong, item, boardCount, recordsAt, read, readIn, headRefusal, captureRefusal, idsIn, recordsIn, openedOf, nextRecord}
+use Rattle.captures.specs.Reading.{Reading, left, wrong, item, boardCount, read, readIn, headRefusal, captureRefusal, idsIn, recordsIn, openedOf, nextRecord}
 use Rattle.captures.specs.Writing.{wrongIds, everyInRange, WriteCall, recordsGiven, writeRefusal}
 use Rattle.captures.specs.declared.reading.NextRecord.{NextRecord}
 use Rattle.captures.specs.declared.reading.NextRecord.the-variants as next

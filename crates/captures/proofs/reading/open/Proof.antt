@@ -8,7 +8,7 @@ use lib.ListN.{drop}
 use Rattle.framing.specs.Refusal.{firstRefusal}
 use Rattle.framing.proofs.Refusals.{goes-on, ends-here}
 use Rattle.captures.specs.Form.{idsAt}
-use Rattle.captures.specs.Reading.{headRefusals, headRefusal, boardCount, openedAs, openedOf}
+use Rattle.captures.specs.Reading.{headRefusals, headRefusal, openedAs, openedOf}
 use Rattle.captures.specs.declared.reading.Opened.the-variants as opened
 use borrow.Author.Needs.{needs}
 use Rattle.captures.proofs.reading.open.Statement.{statement}

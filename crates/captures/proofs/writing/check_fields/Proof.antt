@@ -1,13 +1,11 @@
 -- `captures::writing::check_fields` meets its contract.
-use Prim.Native.Nat.{ℕ, _+_, _-_, _≤_}
+use Prim.Native.Nat.{_+_, _-_, _≤_}
 use native.Mathlib.Omega.{arith}
-use mathlib.Core.Bool.{Bool, true, false, not, _&&_}
-use mathlib.Core.List.{List}
-use mathlib.Core.Path.{_≡_, refl, sym, ap, _∙_}
+use mathlib.Core.Bool.{_&&_}
+use mathlib.Core.Path.{_≡_, refl, _∙_}
 use borrow.Author.Tests.{not-true, not-false}
 use denote.Ref.{now}
 use lib.ListN.{length, drop}
-use Rattle.framing.specs.Refusal.{checked}
 use Rattle.captures.specs.Writing.{recordList, everyInRange}
 use Rattle.captures.proofs.Lists.{listFrom, list-end, every-step}
 use borrow.Author.Needs.{needs}

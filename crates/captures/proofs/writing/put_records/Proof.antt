@@ -1,14 +1,14 @@
 -- `captures::writing::put_records` meets its contract.
-use Prim.Native.Nat.{ℕ, _+_, _-_, _≤_}
+use Prim.Native.Nat.{_+_, _-_, _≤_}
 use native.Mathlib.Omega.{arith}
-use mathlib.Core.List.{List, _++_}
-use mathlib.Core.Path.{_≡_, refl, sym, ap, _∙_}
+use mathlib.Core.List.{_++_}
+use mathlib.Core.Path.{_≡_, refl}
 use denote.Ref.{now}
-use lib.ListN.{length, drop, getD, length-append}
+use lib.ListN.{length, drop, getD}
 use Rattle.captures.specs.Form.{packetAt, Record, recordOf, recordBytes, recordsBytes}
 use Rattle.captures.specs.Writing.{recordList}
 use Rattle.captures.proofs.Buffers.{PutFrom, next-fits, put-on, put-all}
-use Rattle.captures.proofs.Lists.{length-record, listFrom, list-end, bytes-step, no-records}
+use Rattle.captures.proofs.Lists.{length-record, listFrom, bytes-step, no-records}
 use borrow.Author.Needs.{needs}
 use Rattle.captures.proofs.writing.put_records.Statement.{statement}
 use Rattle.captures.proofs.writing.put_records.Tie as tie
