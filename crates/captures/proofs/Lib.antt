@@ -7,4 +7,5 @@ pub mod Calls
 pub mod ReadsWritten
 pub mod Appending
 pub mod Pieces
+pub mod Ranges
 pub mod WritesRead

@@ -5,8 +5,8 @@ use mathlib.Core.Bool.{true, false, not}
 use mathlib.Core.List.{List, [], _∷_, _++_, append-assoc}
 use mathlib.Core.Option.{none}
 use mathlib.Core.Path.{_≡_, refl, sym, ap, _∙_}
-use borrow.Author.Tests.{ltb-true, leb-true, eqb-true, lt-ltb, le-ltb, le-leb, not-false}
-use lib.Dec.{leb, ltb, eqb}
+use borrow.Author.Tests.{eqb-true, lt-ltb, le-ltb, le-leb, not-false}
+use lib.Dec.{eqb}
 use lib.ListN.{length, take, drop, getD, length-append}
 use lib.Seq.{take-at, drop-at}
 use Rattle.octets.specs.Octets.{same}
@@ -20,21 +20,10 @@ use Rattle.captures.specs.Writing.{wrongIds, recordInRange, everyInRange
 use Rattle.captures.specs.Statements.{countersFit, ReadsBack, ReadsWritten, CallsReadBack}
 use Rattle.captures.proofs.Fields.{length-bytes, number-back, field-at}
 use Rattle.captures.proofs.Lists.{length-record, length-head, few-boards}
+use Rattle.captures.proofs.Ranges.{Ranges, ranges}
 use Rattle.captures.proofs.Records.{read-whole}
 
--- the parts of a record that a capture may hold
-record Ranges (boards : ℕ) (r : Record) : Type 0 where
-  index : r .index < boards
-  direction : r .direction ≤ 1
-  packet : length (r .packet) ≤ 256
-
-ranges : (boards : ℕ) (r : Record) → recordInRange boards r ≡ true → Ranges boards r
-ranges boards r h =
-    let all = both-true _ (leb (length (r .packet)) 256) h in
-    let two = both-true (ltb (r .index) boards) (leb (r .direction) 1) (all .0) in
-    record { index = ltb-true _ _ (two .0); direction = leb-true _ _ (two .1); packet = leb-true _ 256 (all .1) }
-
-module _ (boards : ℕ) (r : Record) (rest : List ℕ) (few : boards ≤ 256 ^ indexSize) (counted : r .counter < 256 ^ 4) (h : Ranges boards r) where
+module _ (boards : ℕ) (r : Record) (rest : List ℕ) (few : boards ≤ 256 ^ indexSize) (counted : r .counter < 256 ^ 4) (h : Ranges boards (r .index) (r .direction) (length (r .packet))) where
   abbrev bytes : List ℕ
   bytes = recordBytes r ++ rest
 
@@ -67,13 +56,13 @@ module _ (boards : ℕ) (r : Record) (rest : List ℕ) (few : boards ≤ 256 ^ i
 
   index-read : indexIn bytes ≡ r .index
   index-read =
-      ap indexIn by-index ∙ field-at [] index _ refl (length-bytes indexSize (r .index)) ∙ number-back indexSize (r .index) (omega (arith, h .index, few))
+      ap indexIn by-index ∙ field-at [] index _ refl (length-bytes indexSize (r .index)) ∙ number-back indexSize (r .index) (omega (arith, h .board, few))
 
   direction-read : directionIn bytes ≡ r .direction
   direction-read =
       ap directionIn by-direction
       ∙ field-at index direction _ {at = directionAt} (length-bytes indexSize (r .index)) (length-bytes 1 (r .direction))
-      ∙ number-back 1 (r .direction) (omega (arith, h .direction))
+      ∙ number-back 1 (r .direction) (omega (arith, h .way))
 
   counter-read : counterIn bytes ≡ r .counter
   counter-read =
@@ -85,7 +74,7 @@ module _ (boards : ℕ) (r : Record) (rest : List ℕ) (few : boards ≤ 256 ^ i
   size-read =
       ap sizeIn by-size
       ∙ field-at (index ++ direction ++ counter) size _ {at = sizeAt} (simp (length-append, length-bytes)) (length-bytes 2 (length (r .packet)))
-      ∙ number-back 2 (length (r .packet)) (omega (arith, h .packet))
+      ∙ number-back 2 (length (r .packet)) (omega (arith, h .long))
 
   packet-read : take (sizeIn bytes) (drop packetAt bytes) ≡ r .packet
   packet-read =
@@ -94,7 +83,7 @@ module _ (boards : ℕ) (r : Record) (rest : List ℕ) (few : boards ≤ 256 ^ i
       ∙ rw (drop-at (index ++ direction ++ counter ++ size) (r .packet ++ rest) packetAt (simp (length-append, length-bytes)), take-at (r .packet) rest (length (r .packet)) refl))
 
   range-read : inRange boards bytes ≡ true
-  range-read = rw (index-read, direction-read, size-read, lt-ltb _ _ (h .index), le-leb _ _ (h .direction), le-leb _ _ (h .packet))
+  range-read = rw (index-read, direction-read, size-read, lt-ltb _ _ (h .board), le-leb _ _ (h .way), le-leb _ _ (h .long))
 
   ends : length (recordBytes r) ≡ packetAt + sizeIn bytes
   ends = omega (arith, length-record r, size-read)
@@ -112,7 +101,7 @@ unfolding recordsBytes reading recordsOf wrongRecord everyInRange countersFit
 records-back boards [] few right fit = (refl, refl)
 records-back boards (r ∷ rs) few right fit =
     let both = both-true (recordInRange boards r) (everyInRange boards rs) right in
-    let first = record-back boards r (recordsBytes rs) few (fit .0) (ranges boards r (both .0)) in
+    let first = record-back boards r (recordsBytes rs) few (fit .0) (ranges boards (r .index) (r .direction) (length (r .packet)) (both .0)) in
     let rest = records-back boards rs few (both .1) (fit .1) in
     (ap recordsOf first ∙ ap (λ (l : List Record). r ∷ l) (rest .0), ap wrongRecord first ∙ rest .1)
 

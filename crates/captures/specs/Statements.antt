@@ -11,6 +11,14 @@ use Rattle.captures.specs.Writing.{wrongIds, everyInRange, WriteCall, re
 use Rattle.captures.specs.declared.reading.NextRecord.{NextRecord}
 use Rattle.captures.specs.declared.reading.NextRecord.the-variants as next
 
+-- a record's index names a board, its direction is one of the two, and its packet is no longer than a packet can be
+unfoldable pub Within : ℕ → List Record → Type 0
+Within boards [] = Unit {0}
+Within boards (r ∷ rs) = (r .index < boards) × (r .direction ≤ 1) × (length (r .packet) ≤ 256) × Within boards rs
+
+abbrev pub RecordsWithin : Type 0
+RecordsWithin = (capture : List ℕ) → Within (boardsOf (idsIn capture)) (recordsIn capture)
+
 -- each counter has room in four bytes
 unfoldable pub countersFit : List Record → Type 0
 countersFit [] = Unit {0}

@@ -7,8 +7,6 @@ use Rattle.captures.specs.Numbers.{bytesOf}
 use borrow.Author.Needs.{needs}
 use Rattle.captures.proofs.two_bytes.Statement.{statement}
 use Rattle.captures.proofs.two_bytes.Tie as tie
-use Rattle.captures.proofs.two_bytes.Reads as reads
-use Rattle.captures.proofs.two_bytes.Lts as lts
 
 cast-t3 : tie.Need-cast-t3
 cast-t3 c = search needs

@@ -6,10 +6,6 @@ use Rattle.captures.proofs.Fields.{field-one}
 use borrow.Author.Needs.{needs}
 use Rattle.captures.proofs.reading.board_count.Statement.{statement}
 use Rattle.captures.proofs.reading.board_count.Tie as tie
-use Rattle.captures.proofs.reading.board_count.Reads as reads
-use Rattle.captures.proofs.reading.board_count.Lts as lts
-use Rattle.octets.proofs.byte_at.Reads as byte-at-reads
-use Rattle.octets.proofs.to_u16.Reads as to-u16-reads
 
 byte-at-requires : tie.Need-byte-at-requires
 byte-at-requires c κs = search needs

@@ -5,10 +5,6 @@ use Rattle.framing.specs.Refusal.{checked}
 use borrow.Author.Needs.{needs}
 use Rattle.captures.proofs.reading.check_mark.Statement.{statement}
 use Rattle.captures.proofs.reading.check_mark.Tie as tie
-use Rattle.captures.proofs.reading.check_mark.Reads as reads
-use Rattle.captures.proofs.reading.check_mark.Lts as lts
-use Rattle.framing.proofs.passed_if.Reads as passed-if-reads
-use Rattle.octets.proofs.stands_at.Reads as stands-at-reads
 
 slice-aggregate-stands-at : tie.Need-slice-aggregate-stands-at
 slice-aggregate-stands-at c = search needs

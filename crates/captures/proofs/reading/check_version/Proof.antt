@@ -8,11 +8,6 @@ use Rattle.captures.specs.Form.{versionAt}
 use borrow.Author.Needs.{needs}
 use Rattle.captures.proofs.reading.check_version.Statement.{statement}
 use Rattle.captures.proofs.reading.check_version.Tie as tie
-use Rattle.captures.proofs.reading.check_version.Reads as reads
-use Rattle.captures.proofs.reading.check_version.Lts as lts
-use Rattle.captures.proofs.two_bytes.Reads as two-bytes-reads
-use Rattle.framing.proofs.passed_if.Reads as passed-if-reads
-use Rattle.octets.proofs.stands_at.Reads as stands-at-reads
 
 two-bytes-requires : tie.Need-two-bytes-requires
 two-bytes-requires c κs = search needs

@@ -5,9 +5,6 @@ use Rattle.captures.proofs.Fields.{field-one}
 use borrow.Author.Needs.{needs}
 use Rattle.captures.proofs.reading.index_at.Statement.{statement}
 use Rattle.captures.proofs.reading.index_at.Tie as tie
-use Rattle.captures.proofs.reading.index_at.Reads as reads
-use Rattle.captures.proofs.reading.index_at.Lts as lts
-use Rattle.octets.proofs.to_u16.Reads as to-u16-reads
 
 shared-slice-read-to-u16 : tie.Need-shared-slice-read-to-u16
 shared-slice-read-to-u16 c = search needs

@@ -5,10 +5,6 @@ use Rattle.captures.proofs.Fields.{field-four}
 use borrow.Author.Needs.{needs}
 use Rattle.captures.proofs.reading.long_at.Statement.{statement}
 use Rattle.captures.proofs.reading.long_at.Tie as tie
-use Rattle.captures.proofs.reading.long_at.Reads as reads
-use Rattle.captures.proofs.reading.long_at.Lts as lts
-use Rattle.captures.proofs.reading.short_at.Reads as short-at-reads
-use Rattle.captures.proofs.reading.to_u32.Reads as to-u32-reads
 
 short-at-requires : tie.Need-short-at-requires
 short-at-requires c κs = search needs

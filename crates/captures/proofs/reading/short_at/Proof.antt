@@ -5,9 +5,6 @@ use Rattle.captures.proofs.Fields.{field-two}
 use borrow.Author.Needs.{needs}
 use Rattle.captures.proofs.reading.short_at.Statement.{statement}
 use Rattle.captures.proofs.reading.short_at.Tie as tie
-use Rattle.captures.proofs.reading.short_at.Reads as reads
-use Rattle.captures.proofs.reading.short_at.Lts as lts
-use Rattle.captures.proofs.reading.of_two_bytes.Reads as of-two-bytes-reads
 
 shared-slice-read-of-two-bytes : tie.Need-shared-slice-read-of-two-bytes
 shared-slice-read-of-two-bytes c = search needs

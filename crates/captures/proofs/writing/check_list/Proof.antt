@@ -3,10 +3,6 @@ use borrow.Author.Tests.{eq-eqb, ne-eqb}
 use borrow.Author.Needs.{needs}
 use Rattle.captures.proofs.writing.check_list.Statement.{statement}
 use Rattle.captures.proofs.writing.check_list.Tie as tie
-use Rattle.captures.proofs.writing.check_list.Reads as reads
-use Rattle.captures.proofs.writing.check_list.Lts as lts
-use Rattle.framing.proofs.passed_if.Reads as passed-if-reads
-use Rattle.octets.proofs.adds_up.Reads as adds-up-reads
 
 returns : tie.Need-returns
 returns c = simp (ne-eqb _ _ (c .if1 .taken))

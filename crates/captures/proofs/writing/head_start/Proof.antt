@@ -8,8 +8,6 @@ use Rattle.captures.specs.Numbers.{bytesOf}
 use borrow.Author.Needs.{needs}
 use Rattle.captures.proofs.writing.head_start.Statement.{statement}
 use Rattle.captures.proofs.writing.head_start.Tie as tie
-use Rattle.captures.proofs.writing.head_start.Reads as reads
-use Rattle.captures.proofs.writing.head_start.Lts as lts
 
 cast-t3 : tie.Need-cast-t3
 cast-t3 c = search needs

@@ -2,10 +2,6 @@
 use borrow.Author.Needs.{needs}
 use Rattle.captures.proofs.writing.put_head.Statement.{statement}
 use Rattle.captures.proofs.writing.put_head.Tie as tie
-use Rattle.captures.proofs.writing.put_head.Reads as reads
-use Rattle.captures.proofs.writing.put_head.Lts as lts
-use Rattle.captures.proofs.writing.head_start.Reads as head-start-reads
-use Rattle.octets.proofs.overwrite_pair.Reads as overwrite-pair-reads
 
 head-start-requires : tie.Need-head-start-requires
 head-start-requires c κs = search needs

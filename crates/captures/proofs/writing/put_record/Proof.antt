@@ -2,10 +2,6 @@
 use borrow.Author.Needs.{needs}
 use Rattle.captures.proofs.writing.put_record.Statement.{statement}
 use Rattle.captures.proofs.writing.put_record.Tie as tie
-use Rattle.captures.proofs.writing.put_record.Reads as reads
-use Rattle.captures.proofs.writing.put_record.Lts as lts
-use Rattle.captures.proofs.writing.record_start.Reads as record-start-reads
-use Rattle.octets.proofs.overwrite_pair.Reads as overwrite-pair-reads
 
 record-start-requires : tie.Need-record-start-requires
 record-start-requires c κs = search needs

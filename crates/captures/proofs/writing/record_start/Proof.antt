@@ -8,8 +8,6 @@ use Rattle.captures.specs.Numbers.{bytesOf}
 use borrow.Author.Needs.{needs}
 use Rattle.captures.proofs.writing.record_start.Statement.{statement}
 use Rattle.captures.proofs.writing.record_start.Tie as tie
-use Rattle.captures.proofs.writing.record_start.Reads as reads
-use Rattle.captures.proofs.writing.record_start.Lts as lts
 
 cast-t9 : tie.Need-cast-t9
 cast-t9 c = search needs

@@ -70,8 +70,8 @@ same-length c = search needs
 returns-3 : tie.Need-returns-3
 unfolding recordCallRefusals
 returns-3 c =
-    let short = not-put (c .before .before .before .put-record .ensures) (not-true _ (c .if2 .taken)) in
-    refused-as (after-2 (c .before .before .before .before .before) ∙ refused-first _ _ _ (short .0)) (short .1)
+    let short = not-put (c .before .before .before .put-record .ensures) (not-true (c .before .before .before .put-record .result) (c .if2 .taken)) in
+    refused-as (after-2 (c .before .before .before .before .before) ∙ refused-first _ _ (call-1 (c .before .before .before .before .before .before .before)) (short .0)) (short .1)
 
 add-t14 : tie.Need-add-t14
 add-t14 c = search needs
