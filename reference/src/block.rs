@@ -1,5 +1,7 @@
 //! Data blocks: the commands of a request and the reports of a response. This layer knows no rows.
 
+use crate::reader::Reader;
+
 /// Special command: the next byte is the new function.
 pub const CHANGE_FUNCTION: u8 = 0xFC;
 /// Special command of a response: the next byte is an unknown parameter.
@@ -34,22 +36,7 @@ pub enum Report {
     Unknown { number: u16 },
 }
 
-/// Takes bytes off the front of a block.
-struct Reader<'a> {
-    rest: &'a [u8],
-}
-
-impl<'a> Reader<'a> {
-    fn byte(&mut self) -> Option<u8> {
-        Some(self.bytes(1)?[0])
-    }
-
-    fn bytes(&mut self, count: usize) -> Option<&'a [u8]> {
-        let (taken, rest) = self.rest.split_at_checked(count)?;
-        self.rest = rest;
-        Some(taken)
-    }
-
+impl Reader<'_> {
     /// What follows FE: size, low byte and value.
     fn sized(&mut self) -> Option<(u8, Vec<u8>)> {
         let size = self.byte()?;

@@ -44,14 +44,19 @@ fn check_sender(record: &Record, frame: &Frame) -> Result<bool, Refusal> {
 
 /// Checks 9, 10 and 11, before any command runs.
 fn read_block(frame: &Frame, search: bool) -> Result<Request, Refusal> {
-    if !(1..=5).contains(&frame.function) {
-        return Err(Refusal::Function);
-    }
-    let request = block::read_request(frame.function, frame.data).ok_or(Refusal::Malformed)?;
+    let request = read_request(frame)?;
     if search && request.functions.iter().any(|function| *function != 1) {
         return Err(Refusal::SearchFunction);
     }
     Ok(request)
+}
+
+/// Checks 9 and 10 of a request.
+pub fn read_request(frame: &Frame) -> Result<Request, Refusal> {
+    if !(1..=5).contains(&frame.function) {
+        return Err(Refusal::Function);
+    }
+    block::read_request(frame.function, frame.data).ok_or(Refusal::Malformed)
 }
 
 /// Runs one command and gives its report, if it has one.

@@ -3,13 +3,18 @@
 use crate::block::Report;
 use crate::hex;
 use crate::packet;
+use crate::refusal::Refusal;
 use crate::tool;
+
+/// The reports of a response from any board. Checks 2 to 6, 9, 10.
+pub fn reports(response: &[u8]) -> Result<Vec<Report>, Refusal> {
+    let frame = packet::read(response)?;
+    tool::read_reports(frame.function, frame.data)
+}
 
 /// The lines of the listing, without their line ends.
 pub fn lines(response: &[u8]) -> Vec<String> {
-    let reports =
-        packet::read(response).and_then(|frame| tool::read_reports(frame.function, frame.data));
-    match reports {
+    match reports(response) {
         Ok(reports) => {
             let header = "number,value".to_string();
             std::iter::once(header)

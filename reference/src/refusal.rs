@@ -43,6 +43,16 @@ pub enum Refusal {
     Command = 42,
     /// Tool: the packet would exceed 256 bytes.
     LongPacket = 43,
+    /// Capture: the mark is wrong or cut short.
+    CaptureMark = 50,
+    /// Capture: the version is wrong or cut short.
+    CaptureVersion = 51,
+    /// Capture: the board count is wrong or cut short, or the IDs are.
+    CaptureBoards = 52,
+    /// Capture: a record is cut short or has a field outside its range.
+    CaptureRecord = 53,
+    /// Capture: the writer's buffer is too short.
+    CaptureBuffer = 54,
     /// The board record is not a legal one.
     IllegalRecord = 70,
 }
