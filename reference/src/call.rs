@@ -3,11 +3,14 @@
 use std::fmt;
 
 use crate::block::Command;
+use crate::capture::Captured;
 use crate::hex;
 use crate::schedule;
 
-/// The longest buffer that a call may ask for.
+/// The longest buffer that a call of board or tool may ask for.
 pub const LONGEST_BUFFER: usize = 1024;
+/// The longest buffer for a capture.
+pub const MOST_ROOM: usize = 1_048_576;
 
 /// One call of the list.
 #[derive(Clone, Debug, PartialEq, Eq)]
@@ -52,6 +55,18 @@ pub enum Call {
     List {
         packet: Vec<u8>,
     },
+    CaptureRead {
+        capture: Vec<u8>,
+    },
+    CaptureWrite {
+        room: usize,
+        /// Parts of any length; the writer is given their bytes one after another.
+        ids: Vec<Vec<u8>>,
+        records: Vec<Captured>,
+    },
+    Summary {
+        capture: Vec<u8>,
+    },
 }
 
 /// The call of a line; none if it has none of the forms.
@@ -90,8 +105,51 @@ pub fn parse(line: &str) -> Option<Call> {
         ["list", packet] => Some(Call::List {
             packet: hex::parse_field(packet)?,
         }),
+        _ => parse_capture_call(&fields),
+    }
+}
+
+fn parse_capture_call(fields: &[&str]) -> Option<Call> {
+    match fields {
+        ["capread", capture] => Some(Call::CaptureRead {
+            capture: hex::parse_field(capture)?,
+        }),
+        ["capwrite", room, ids, records @ ..] => Some(Call::CaptureWrite {
+            room: parse_decimal(room, MOST_ROOM)?,
+            ids: parse_ids(ids)?,
+            records: records
+                .iter()
+                .map(|record| parse_captured(record))
+                .collect::<Option<_>>()?,
+        }),
+        ["summary", capture] => Some(Call::Summary {
+            capture: hex::parse_field(capture)?,
+        }),
         _ => None,
     }
+}
+
+/// Bytes joined by commas, at least one in each part; `-` alone for no part.
+fn parse_ids(field: &str) -> Option<Vec<Vec<u8>>> {
+    if field == "-" {
+        return Some(Vec::new());
+    }
+    let parts = field.split(',').map(hex::parse_field);
+    parts.map(|part| part.filter(|id| !id.is_empty())).collect()
+}
+
+/// `I.D.C.HEX`.
+fn parse_captured(field: &str) -> Option<Captured> {
+    let parts: Vec<&str> = field.split('.').collect();
+    let [index, direction, counter, packet] = parts[..] else {
+        return None;
+    };
+    Some(Captured {
+        index: parse_decimal(index, u16::MAX.into())? as u16,
+        direction: parse_byte(direction)?,
+        counter: parse_decimal(counter, u32::MAX as usize)? as u32,
+        packet: hex::parse_field(packet)?,
+    })
 }
 
 fn parse_poke(field: &str, value: &str) -> Option<Call> {
@@ -186,6 +244,13 @@ impl fmt::Display for Call {
                 hex::field(packet)
             ),
             Call::List { packet } => write!(output, "list {}", hex::field(packet)),
+            Call::CaptureRead { capture } => write!(output, "capread {}", hex::field(capture)),
+            Call::CaptureWrite { room, ids, records } => {
+                write!(output, "capwrite {room} {}", joined(ids))?;
+                let mut records = records.iter();
+                records.try_for_each(|record| write!(output, " {}", captured(record)))
+            }
+            Call::Summary { capture } => write!(output, "summary {}", hex::field(capture)),
             poke => write_poke(output, poke),
         }
     }
@@ -208,6 +273,29 @@ fn write_poke(output: &mut fmt::Formatter, call: &Call) -> fmt::Result {
 
 fn identity(id: &[u8], password: &[u8]) -> String {
     format!("{} {}", hex::field(id), hex::field(password))
+}
+
+/// Parts of bytes joined by commas.
+fn joined(ids: &[Vec<u8>]) -> String {
+    match ids {
+        [] => "-".to_string(),
+        _ => ids
+            .iter()
+            .map(|id| hex::digits(id))
+            .collect::<Vec<_>>()
+            .join(","),
+    }
+}
+
+/// `I.D.C.HEX`, as calls and answers have it.
+pub fn captured(record: &Captured) -> String {
+    let Captured {
+        index,
+        direction,
+        counter,
+        packet,
+    } = record;
+    format!("{index}.{direction}.{counter}.{}", hex::field(packet))
 }
 
 fn write_command(output: &mut fmt::Formatter, command: &Command) -> fmt::Result {
@@ -244,6 +332,12 @@ mod tests {
             "write 256 00 - 1:0001:- 255:FFFF:00FF",
             "read 00 31 FDFD",
             "list -",
+            "capread -",
+            "capread 564C47",
+            "capwrite 0 -",
+            "capwrite 1048576 00 65535.255.4294967295.-",
+            "capwrite 22 0001,02 0.0.0.FDFD 0.1.10.00",
+            "summary -",
         ] {
             assert_eq!(parse(line).unwrap().to_string(), line);
         }
@@ -269,6 +363,14 @@ mod tests {
             "poke 77:1.1 00",
             "poke 0077:1:1 00",
             "poke 0077:1.1 0",
+            "capwrite 1048577 -",
+            "capwrite 0 00,",
+            "capwrite 0 00,-",
+            "capwrite 0 - 65536.0.0.-",
+            "capwrite 0 - 0.256.0.-",
+            "capwrite 0 - 0.0.4294967296.-",
+            "capwrite 0 - 0.0.0.",
+            "capwrite 0 - 0.0.0.00.",
         ] {
             assert_eq!(parse(line), None, "{line}");
         }

@@ -5,11 +5,13 @@ use std::io::{self, BufRead, Write};
 use crate::block::{Command, Report};
 use crate::board;
 use crate::call::{self, Call};
+use crate::capture::{self, Captured};
 use crate::hex;
 use crate::listing;
 use crate::record::{self, Record};
 use crate::refusal::Refusal;
 use crate::schedule;
+use crate::summary;
 use crate::tool;
 
 pub const BAD_LINE: &str = "bad line";
@@ -70,6 +72,11 @@ impl Session {
                 packet,
             } => read(id, password, packet),
             Call::List { packet } => listing::lines(packet).join("|"),
+            Call::CaptureRead { capture } => read_capture(capture),
+            Call::CaptureWrite { room, ids, records } => {
+                write_capture(*room, &ids.concat(), records)
+            }
+            Call::Summary { capture } => summarize(capture),
             poke => self.poke(poke),
         }
     }
@@ -83,12 +90,7 @@ impl Session {
     fn packet(&mut self, length: usize, packet: &[u8]) -> String {
         let mut buffer = vec![FILLER; length];
         let answer = board::packet(&mut self.record, packet, &mut buffer);
-        let text = match answer {
-            Ok(0) => "silence".to_string(),
-            Ok(length) => format!("response {}", hex::digits(&buffer[..length])),
-            Err(refusal) => refused(refusal),
-        };
-        text + dirty(&buffer, answer)
+        written("response", &buffer, answer)
     }
 
     fn poke(&mut self, call: &Call) -> String {
@@ -127,14 +129,48 @@ fn dirty(buffer: &[u8], answer: Result<usize, Refusal>) -> &'static str {
     }
 }
 
+/// What stands at the front of a buffer, named by a word; silence for nothing, or the refusal.
+fn written(word: &str, buffer: &[u8], answer: Result<usize, Refusal>) -> String {
+    let text = match answer {
+        Ok(0) => "silence".to_string(),
+        Ok(length) => format!("{word} {}", hex::digits(&buffer[..length])),
+        Err(refusal) => refused(refusal),
+    };
+    text + dirty(buffer, answer)
+}
+
 fn write(length: usize, id: &[u8], password: &[u8], commands: &[Command]) -> String {
     let mut buffer = vec![FILLER; length];
     let answer = tool::write(&mut buffer, id, password, commands);
-    let text = match answer {
-        Ok(length) => format!("packet {}", hex::digits(&buffer[..length])),
-        Err(refusal) => refused(refusal),
-    };
-    text + dirty(&buffer, answer)
+    written("packet", &buffer, answer)
+}
+
+fn write_capture(room: usize, ids: &[u8], records: &[Captured]) -> String {
+    let mut buffer = vec![FILLER; room];
+    let answer = capture::write(&mut buffer, ids, records);
+    written("capture", &buffer, answer)
+}
+
+fn read_capture(capture: &[u8]) -> String {
+    let reading = capture::read(capture);
+    let mut text = format!("version {}", reading.version);
+    for id in &reading.ids {
+        text += &format!(" id:{}", hex::digits(id));
+    }
+    for record in &reading.records {
+        text += &format!(" rec:{}", call::captured(record));
+    }
+    if let Some(refusal) = reading.refusal {
+        text += &format!(" {}", refused(refusal));
+    }
+    text
+}
+
+fn summarize(capture: &[u8]) -> String {
+    match &summary::lines(capture)[..] {
+        [] => "-".to_string(),
+        lines => lines.join("|"),
+    }
 }
 
 fn read(id: &[u8], password: &[u8], packet: &[u8]) -> String {
@@ -258,6 +294,26 @@ mod tests {
         let (pokes, shown) = lines.rsplit_once("poked\n").unwrap();
         assert_eq!(pokes, "poked\n".repeat(28));
         assert!(shown.ends_with(&format!(" 0402=00{expected}\n")), "{shown}");
+    }
+
+    #[test]
+    fn captures_are_written_read_and_summed_up() {
+        let id = "30".repeat(16);
+        let capture = format!("564C47010001{id}00010500000002000102");
+        let list = format!(
+            "capwrite 32 {id} 0.1.5.0102\ncapread {capture}\nsummary {capture}\ncapread {capture}00\nsummary {capture}00\n"
+        );
+        let read = format!("version 1 id:{id} rec:0.1.5.0102");
+        let expected =
+            format!("capture {capture}\n{read}\n0,2,1\n{read} refused 53\n0,2,1|refused,53\n");
+        assert_eq!(run(&list), expected);
+        assert_eq!(
+            run("capread -\nsummary -\ncapwrite 0 -\ncapread 564C470100\n"),
+            "version 0 refused 50\nrefused,50\nrefused 52\nversion 1 refused 52\n"
+        );
+        let empty = format!("564C47010001{id}");
+        let list = format!("capread {empty}\nsummary {empty}\n");
+        assert_eq!(run(&list), format!("version 1 id:{id}\n-\n"));
     }
 
     #[test]
