@@ -1,7 +1,7 @@
 //! Whole packets: with faults in any part, of any length, or with a byte changed.
 
 use super::{blocks, identities};
-use crate::packet::{self, CODE_WORD};
+use crate::packet::{self, CODE_WORD, LONGEST, RESPONSE, SHORTEST};
 use crate::random::Random;
 
 /// Puts the right checksum at the end.
@@ -38,6 +38,34 @@ pub fn faulty(random: &mut Random, id: &[u8], password: &[u8]) -> Vec<u8> {
     let mut packet = packet::write(&id, &password, function, &data);
     spoil_frame(random, chance, &mut packet);
     packet
+}
+
+/// A response with faults in any part, behind its ID and password.
+pub fn faulty_response(random: &mut Random) -> (Vec<u8>, Vec<u8>, Vec<u8>) {
+    let chance = random.pick(&[5, 15, 25]);
+    let id = match random.chance(5) {
+        true => CODE_WORD.to_vec(),
+        false => identities::legal_id(random),
+    };
+    let password = match random.chance(10) {
+        true => identities::strange_password(random),
+        false => identities::legal_password(random),
+    };
+    let mut data = blocks::response(random, LONGEST - SHORTEST - password.len());
+    if random.chance(20) {
+        blocks::spoil_response(random, &mut data);
+    }
+    let function = match random.chance(chance) {
+        true => random.pick(&[0, 1, 2, 3, 4, 5, 7, 0xFF]),
+        false => RESPONSE,
+    };
+    let mut response = packet::write(&id, &password, function, &data);
+    match random.between(0, 3) {
+        0 | 1 => spoil_frame(random, chance, &mut response),
+        2 if random.chance(chance) => response = changed(random, &response),
+        _ => {}
+    }
+    (id, password, response)
 }
 
 /// Spoils sizes, TYPE, checksum, start and length, each with some chance.
@@ -108,9 +136,9 @@ pub fn of_length(random: &mut Random, length: usize, id: &[u8], password: &[u8])
             *byte = 0xFD;
         }
     }
-    if kind >= 3 && length >= packet::SHORTEST + password.len() {
+    if kind >= 3 && length >= SHORTEST + password.len() {
         let function = random.between(1, 5) as u8;
-        let room = length - packet::SHORTEST - password.len();
+        let room = length - SHORTEST - password.len();
         let data = match kind {
             3 => random.bytes(room),
             _ => padded_request(random, function, room),

@@ -4,7 +4,7 @@ use super::{Generator, blocks, identities, packets};
 use crate::block::{self, Command};
 use crate::call::Call;
 use crate::hex;
-use crate::packet::{self, CODE_WORD, LONGEST, RESPONSE, SHORTEST};
+use crate::packet::{self, CODE_WORD, LONGEST, SHORTEST};
 use crate::random::Random;
 
 impl Generator {
@@ -55,29 +55,7 @@ impl Generator {
     /// A response made here, with faults in any part.
     pub fn handmade_response(&mut self) {
         let random = &mut self.random;
-        let chance = random.pick(&[5, 15, 25]);
-        let id = match random.chance(5) {
-            true => CODE_WORD.to_vec(),
-            false => identities::legal_id(random),
-        };
-        let password = match random.chance(10) {
-            true => identities::strange_password(random),
-            false => identities::legal_password(random),
-        };
-        let mut data = blocks::response(random, LONGEST - SHORTEST - password.len());
-        if random.chance(20) {
-            blocks::spoil_response(random, &mut data);
-        }
-        let function = match random.chance(chance) {
-            true => random.pick(&[0, 1, 2, 3, 4, 5, 7, 0xFF]),
-            false => RESPONSE,
-        };
-        let mut response = packet::write(&id, &password, function, &data);
-        match random.between(0, 3) {
-            0 | 1 => packets::spoil_frame(random, chance, &mut response),
-            2 if random.chance(chance) => response = packets::changed(random, &response),
-            _ => {}
-        }
+        let (id, password, response) = packets::faulty_response(random);
         let asked = match random.chance(15) {
             true => CODE_WORD.to_vec(),
             false => id,
