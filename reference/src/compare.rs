@@ -5,7 +5,7 @@ use std::path::Path;
 use std::time::{Duration, Instant};
 
 use crate::edges;
-use crate::generate;
+use crate::generate::Subject;
 use crate::program;
 use crate::random::Random;
 use crate::replay::Session;
@@ -30,6 +30,8 @@ struct Difference {
 /// A comparison with one program.
 pub struct Comparison<'a, Output> {
     pub program: &'a Path,
+    /// What the generated calls are about.
+    pub subject: Subject,
     pub output: Output,
 }
 
@@ -56,13 +58,17 @@ impl<Output: Write> Comparison<'_, Output> {
     /// Lists of fresh seeds, one after another.
     fn compare_generated(&mut self, seed: u64, count: usize) -> Result<Tally, String> {
         let mut seeds = Random::new(seed);
-        let mut tally = Tally::default();
+        let mut tally = Tally::new(self.subject);
         let mut rest = count;
         while rest > 0 {
             let length = rest.min(LIST_LENGTH);
             let list_seed = seeds.next_number();
-            let lines = generate::list(list_seed, length);
-            let name = format!("the list of `reference generate {list_seed} {length}`");
+            let lines = self.subject.list(list_seed, length);
+            let last = match self.subject {
+                Subject::Board => "",
+                Subject::Captures => " captures",
+            };
+            let name = format!("the list of `reference generate {list_seed} {length}{last}`");
             self.compare_list(&name, &lines, &mut tally)?;
             rest -= length;
         }

@@ -3,6 +3,9 @@
 mod blocks;
 mod board_calls;
 mod calendar;
+mod capture_calls;
+mod capture_damage;
+mod captured;
 mod identities;
 mod joining;
 mod lines;
@@ -28,8 +31,10 @@ struct Generator {
 /// One or a few calls that belong together.
 type Scenario = fn(&mut Generator);
 
-/// How often each scenario comes, in parts of their sum.
-const SCENARIOS: [(usize, Scenario); 24] = [
+/// How often a scenario comes, in parts of the sum of its table, and the scenario.
+type Weighted = (usize, Scenario);
+
+const BOARD_SCENARIOS: [Weighted; 24] = [
     (6, Generator::set_up),
     (24, Generator::rightful_traffic),
     (8, Generator::one_row),
@@ -56,23 +61,56 @@ const SCENARIOS: [(usize, Scenario); 24] = [
     (3, Generator::show_record),
 ];
 
-/// A list of `count` calls; lines that are passed over come on top of them.
+const CAPTURE_SCENARIOS: [Weighted; 6] = [
+    (18, Generator::sound_capture),
+    (50, Generator::damaged_capture),
+    (3, Generator::noise_capture),
+    (14, Generator::capture_write),
+    (24, Generator::faulty_capture_write),
+    (2, Generator::bad_capture_line),
+];
+
+/// What a generated list tries.
+#[derive(Clone, Copy, Debug, Default, PartialEq, Eq)]
+pub enum Subject {
+    /// The calls of board, tool and listing.
+    #[default]
+    Board,
+    /// The calls on captures.
+    Captures,
+}
+
+/// A list of `count` calls of board, tool and listing.
 pub fn list(seed: u64, count: usize) -> Vec<String> {
-    let mut generator = Generator {
-        random: Random::new(seed),
-        session: Session::new(),
-        lines: Vec::new(),
-        calls: 0,
-        limit: count,
-    };
-    while generator.calls < count {
-        generator.scenario();
+    Subject::Board.list(seed, count)
+}
+
+impl Subject {
+    /// A list of `count` calls; lines that are passed over come on top of them.
+    pub fn list(self, seed: u64, count: usize) -> Vec<String> {
+        let mut generator = Generator::new(seed, count);
+        while generator.calls < count {
+            match self {
+                Subject::Board => generator.board_scenario(),
+                Subject::Captures => generator.capture_scenario(),
+            }
+        }
+        generator.lines
     }
-    generator.lines
 }
 
 impl Generator {
-    fn scenario(&mut self) {
+    fn new(seed: u64, limit: usize) -> Generator {
+        Generator {
+            random: Random::new(seed),
+            session: Session::new(),
+            lines: Vec::new(),
+            calls: 0,
+            limit,
+        }
+    }
+
+    fn board_scenario(&mut self) {
         if self.session.record.check().is_err() && self.random.chance(50) {
             self.set_up();
         }
@@ -82,10 +120,24 @@ impl Generator {
         if self.calls.is_multiple_of(500) && self.random.chance(50) {
             self.long_line();
         }
-        let sum: usize = SCENARIOS.iter().map(|(weight, _)| weight).sum();
+        self.scenario(&BOARD_SCENARIOS);
+    }
+
+    fn capture_scenario(&mut self) {
+        if self.random.chance(1) {
+            self.passed_over_line();
+        }
+        if self.calls.is_multiple_of(300) && self.random.chance(50) {
+            self.long_capture_line();
+        }
+        self.scenario(&CAPTURE_SCENARIOS);
+    }
+
+    fn scenario(&mut self, scenarios: &[Weighted]) {
+        let sum: usize = scenarios.iter().map(|(weight, _)| weight).sum();
         let mut ticket = self.random.between(0, sum - 1);
-        for (weight, scenario) in SCENARIOS {
-            if ticket < weight {
+        for (weight, scenario) in scenarios {
+            if ticket < *weight {
                 return scenario(self);
             }
             ticket -= weight;
@@ -144,22 +196,26 @@ mod tests {
 
     #[test]
     fn a_seed_gives_one_list_of_the_asked_length() {
-        let first = list(5, 700);
-        assert_eq!(first, list(5, 700));
-        assert_ne!(first, list(6, 700));
-        let mut session = Session::new();
-        let answers = first
-            .iter()
-            .filter_map(|line| session.line(line.as_bytes()))
-            .count();
-        assert_eq!(answers, 700);
-        assert!(list(5, 0).is_empty());
+        for subject in [Subject::Board, Subject::Captures] {
+            let first = subject.list(5, 700);
+            assert_eq!(first, subject.list(5, 700));
+            assert_ne!(first, subject.list(6, 700));
+            let mut session = Session::new();
+            let answers = first
+                .iter()
+                .filter_map(|line| session.line(line.as_bytes()))
+                .count();
+            assert_eq!(answers, 700);
+            assert!(subject.list(5, 0).is_empty());
+        }
     }
 
     #[test]
     fn no_line_is_longer_than_a_replay_must_hold() {
-        let lines = list(9, 5_000);
-        assert!(lines.iter().all(|line| line.len() <= 8_192));
-        assert!(lines.iter().any(|line| line.len() == 8_192));
+        for (subject, longest) in [(Subject::Board, 8_192), (Subject::Captures, 65_536)] {
+            let lines = subject.list(9, 5_000);
+            assert!(lines.iter().all(|line| line.len() <= longest));
+            assert!(lines.iter().any(|line| line.len() == longest));
+        }
     }
 }

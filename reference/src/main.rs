@@ -5,12 +5,13 @@ use std::path::{Path, PathBuf};
 use std::process::ExitCode;
 
 use reference::compare::Comparison;
-use reference::{edges, generate, replay};
+use reference::generate::Subject;
+use reference::{edges, replay};
 
 const USAGE: &str = "usage: reference replay
-       reference generate SEED COUNT
+       reference generate SEED COUNT [captures]
        reference edges
-       reference compare SEED COUNT PROGRAM
+       reference compare SEED COUNT PROGRAM [captures]
 SEED is a decimal number up to 18446744073709551615, COUNT one from 1 to 1000000000.";
 
 const GREATEST_COUNT: usize = 1_000_000_000;
@@ -33,20 +34,32 @@ fn run(arguments: &[&str]) -> Result<(), String> {
         ["replay"] => {
             replay::replay(io::stdin().lock(), output()).map_err(|error| error.to_string())
         }
-        ["generate", seed, count] => {
+        ["generate", seed, count, subject @ ..] => {
+            let subject = parse_subject(subject)?;
             let (seed, count) = (parse_seed(seed)?, parse_count(count)?);
-            print(generate::list(seed, count))
+            print(subject.list(seed, count))
         }
         ["edges"] => print(edges::list().into_iter().map(|entry| entry.line)),
-        ["compare", seed, count, program] => {
+        ["compare", seed, count, program, subject @ ..] => {
+            let subject = parse_subject(subject)?;
             let (seed, count) = (parse_seed(seed)?, parse_count(count)?);
             let program = find_program(program)?;
             let mut comparison = Comparison {
                 program: &program,
+                subject,
                 output: io::stdout(),
             };
             comparison.run(seed, count)
         }
+        _ => Err(USAGE.to_string()),
+    }
+}
+
+/// What the generated calls are about; the board if it is not said.
+fn parse_subject(arguments: &[&str]) -> Result<Subject, String> {
+    match arguments {
+        [] => Ok(Subject::Board),
+        ["captures"] => Ok(Subject::Captures),
         _ => Err(USAGE.to_string()),
     }
 }

@@ -1,16 +1,18 @@
 //! How often each answer came, call by call, and which ones never did.
 
 mod calendar;
+mod captures;
 mod schedule;
 
 use std::collections::BTreeMap;
 
 use crate::block::{self, Command};
+use crate::generate::Subject;
 use crate::packet::{self, CODE_WORD, LONGEST};
 use crate::record::{CLIENT, Record};
 use crate::replay::BAD_LINE;
 
-/// What a comparison has to meet: each call with its refusals and its other answers.
+/// What a comparison of the board has to meet: each call with its refusals and its other answers.
 const EXPECTED: [(&str, &[u8], &[&str]); 9] = [
     ("setup", &[20, 21, 22], &["accepted"]),
     (
@@ -33,19 +35,49 @@ const EXPECTED: [(&str, &[u8], &[&str]); 9] = [
 
 /// The refusals of a call, in the order in which they are checked.
 pub fn refusals(call: &str) -> &'static [u8] {
-    let expected = EXPECTED.iter().find(|expected| expected.0 == call);
-    expected.map_or(&[], |expected| expected.1)
+    let of_board = EXPECTED
+        .iter()
+        .map(|(call, refusals, _)| (*call, *refusals));
+    let mut all = of_board.chain(captures::REFUSALS);
+    all.find(|(name, _)| *name == call)
+        .map_or(&[], |(_, refusals)| refusals)
 }
 
 /// The counts, by call and answer.
 #[derive(Default)]
 pub struct Tally {
+    subject: Subject,
     counts: BTreeMap<String, usize>,
+    /// The last capture that was written, as a field.
+    written: String,
 }
 
 impl Tally {
+    pub fn new(subject: Subject) -> Tally {
+        Tally {
+            subject,
+            ..Tally::default()
+        }
+    }
+
     /// Counts an answer; the record is the one after the call.
     pub fn add(&mut self, line: &str, answer: &str, record: &Record) {
+        match self.subject {
+            Subject::Board => self.add_board(line, answer, record),
+            Subject::Captures => self.add_capture(line, answer),
+        }
+    }
+
+    fn add_capture(&mut self, line: &str, answer: &str) {
+        for name in captures::met(line, answer, &self.written) {
+            *self.counts.entry(name).or_default() += 1;
+        }
+        if let Some(capture) = answer.strip_prefix("capture ") {
+            self.written = capture.to_string();
+        }
+    }
+
+    fn add_board(&mut self, line: &str, answer: &str, record: &Record) {
         let name = name(line, answer);
         let full_length = |word: &str| word.len() == 2 * LONGEST;
         if answer.split(' ').nth(1).is_some_and(full_length) && !name.starts_with("read") {
@@ -61,14 +93,17 @@ impl Tally {
 
     /// One line for each expected answer, with its count.
     pub fn lines(&self) -> Vec<String> {
-        expected()
-            .map(|name| format!("{:>9}  {name}", self.count(&name)))
+        expected(self.subject)
+            .iter()
+            .map(|name| format!("{:>9}  {name}", self.count(name)))
             .collect()
     }
 
     /// The expected answers that never came.
     pub fn missing(&self) -> Vec<String> {
-        expected().filter(|name| self.count(name) == 0).collect()
+        let mut names = expected(self.subject);
+        names.retain(|name| self.count(name) == 0);
+        names
     }
 
     fn count(&self, name: &str) -> usize {
@@ -76,7 +111,14 @@ impl Tally {
     }
 }
 
-fn expected() -> impl Iterator<Item = String> {
+fn expected(subject: Subject) -> Vec<String> {
+    match subject {
+        Subject::Board => expected_of_board().collect(),
+        Subject::Captures => captures::expected(),
+    }
+}
+
+fn expected_of_board() -> impl Iterator<Item = String> {
     let calls = EXPECTED.iter().flat_map(|(call, refusals, answers)| {
         let answers = answers.iter().map(move |answer| format!("{call} {answer}"));
         let refusals = refusals
@@ -119,7 +161,6 @@ fn name(line: &str, answer: &str) -> String {
 #[cfg(test)]
 mod tests {
     use super::*;
-    use crate::generate;
     use crate::replay::Session;
 
     #[test]
@@ -155,15 +196,17 @@ mod tests {
 
     #[test]
     fn generated_lists_meet_every_answer_often() {
-        let mut tally = Tally::default();
-        let mut session = Session::new();
-        for line in generate::list(1, 30_000) {
-            if let Some(answer) = session.line(line.as_bytes()) {
-                tally.add(&line, &answer, &session.record);
+        for (subject, count) in [(Subject::Board, 30_000), (Subject::Captures, 20_000)] {
+            let mut tally = Tally::new(subject);
+            let mut session = Session::new();
+            for line in subject.list(1, count) {
+                if let Some(answer) = session.line(line.as_bytes()) {
+                    tally.add(&line, &answer, &session.record);
+                }
             }
-        }
-        for name in expected() {
-            assert!(tally.count(&name) >= 20, "{name}: {}", tally.count(&name));
+            for name in expected(subject) {
+                assert!(tally.count(&name) >= 20, "{name}: {}", tally.count(&name));
+            }
         }
     }
 }

@@ -22,9 +22,14 @@ fn program(name: &str, command: &str) -> PathBuf {
 }
 
 fn compare(seed: &str, count: &str, program: &str) -> Output {
+    compare_with(&[seed, count, program])
+}
+
+fn compare_with(arguments: &[&str]) -> Output {
     let starting = STARTING.lock().unwrap_or_else(PoisonError::into_inner);
     let process = Command::new(REFERENCE)
-        .args(["compare", seed, count, program])
+        .arg("compare")
+        .args(arguments)
         .stdin(Stdio::null())
         .stdout(Stdio::piped())
         .stderr(Stdio::piped())
@@ -62,6 +67,36 @@ fn an_equal_program_passes_with_its_counts() {
     assert!(output.status.success(), "{text}");
     assert!(text.starts_with("equal on the fixed list and on 12000 generated calls of seed 5"));
     assert!(text.contains("  packet refused 12\n") && text.contains("  packet silence\n"));
+}
+
+#[test]
+fn captures_are_compared_and_counted_apart() {
+    let program = program("captures", "exec \"$REFERENCE\" replay");
+    let program = program.to_str().unwrap();
+    let output = compare_with(&["5", "12000", program, "captures"]);
+    let text = String::from_utf8(output.stdout).unwrap();
+    assert!(output.status.success(), "{text}");
+    assert!(text.contains("  capwrite refused 53: also 54\n"));
+    assert!(!text.contains("packet silence"));
+    for more in [&["capture"][..], &[""], &["captures", "captures"]] {
+        let arguments = [&["5", "1", program], more].concat();
+        let output = compare_with(&arguments);
+        assert!(!output.status.success());
+        let error = String::from_utf8(output.stderr).unwrap();
+        assert!(error.starts_with("reference: usage"), "{error}");
+    }
+}
+
+#[test]
+fn a_wrong_answer_on_captures_names_its_list() {
+    let program = program(
+        "summary",
+        "\"$REFERENCE\" replay | sed 's/^13,/12,/'",
+    );
+    let output = compare_with(&["1", "3000", program.to_str().unwrap(), "captures"]);
+    assert!(!output.status.success());
+    let error = String::from_utf8(output.stderr).unwrap();
+    assert!(error.ends_with(" captures`\n"), "{error}");
 }
 
 #[test]

@@ -132,8 +132,6 @@ mod tests {
     use super::*;
     use crate::block::Report;
     use crate::packet::{LONGEST, SHORTEST};
-    use crate::random::Random;
-    use crate::replay::Session;
 
     fn reports(answer: &str) -> Vec<Report> {
         let Some(response) = answer.strip_prefix("response ").and_then(hex::parse_field) else {
@@ -147,13 +145,7 @@ mod tests {
     /// The law of joined packets, and how often each outcome is met.
     #[test]
     fn a_joined_packet_does_what_its_two_do() {
-        let mut generator = Generator {
-            random: Random::new(11),
-            session: Session::new(),
-            lines: Vec::new(),
-            calls: 0,
-            limit: usize::MAX,
-        };
+        let mut generator = Generator::new(11, usize::MAX);
         let mut met: BTreeMap<&str, usize> = BTreeMap::new();
         for _ in 0..4_000 {
             let (apart, joined) = generator.join();

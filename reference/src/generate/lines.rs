@@ -66,7 +66,8 @@ impl Generator {
         self.show_record_sometimes(10);
     }
 
-    fn spoiled(&mut self, line: &str) -> String {
+    /// The line with a character or a field changed.
+    pub fn spoiled(&mut self, line: &str) -> String {
         let mut characters: Vec<char> = line.chars().collect();
         let place = self.random.between(0, characters.len());
         match self.random.between(0, 7) {
