@@ -89,10 +89,7 @@ fn captures_are_compared_and_counted_apart() {
 
 #[test]
 fn a_wrong_answer_on_captures_names_its_list() {
-    let program = program(
-        "summary",
-        "\"$REFERENCE\" replay | sed 's/^13,/12,/'",
-    );
+    let program = program("summary", "\"$REFERENCE\" replay | sed 's/^13,/12,/'");
     let output = compare_with(&["1", "3000", program.to_str().unwrap(), "captures"]);
     assert!(!output.status.success());
     let error = String::from_utf8(output.stderr).unwrap();

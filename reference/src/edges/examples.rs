@@ -6,10 +6,10 @@ use crate::packet::CODE_WORD;
 
 const ZERO: &str = "00000000000000000000000000000000";
 /// The guide's read of 0001 and 0002.
-const E1: &str =
+pub const E1: &str =
     "FD FD 02 10 00 00 00 00 00 00 00 00 00 00 00 00 00 00 00 00 04 31 31 31 31 01 01 02 DE 00";
 /// The guide's response to it.
-const E2: &str = "FD FD 02 10 00 00 00 00 00 00 00 00 00 00 00 00 00 00 00 00 04 31 31 31 31 06 01 00 02 03 E6 00";
+pub const E2: &str = "FD FD 02 10 00 00 00 00 00 00 00 00 00 00 00 00 00 00 00 00 04 31 31 31 31 06 01 00 02 03 E6 00";
 
 pub fn add(edges: &mut Edges) {
     before_setup(edges);
