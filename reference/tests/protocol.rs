@@ -8,12 +8,15 @@ use std::ops::RangeInclusive;
 use std::path::Path;
 
 use board::{Board, CODE_WORD, ZERO_ID, packet};
+use reference::call::{self, Call};
+use reference::capture::{self, Captured, Reading};
 use reference::edges;
-use reference::generate;
+use reference::generate::{self, Subject};
 use reference::record::{CLIENT, Record, setup};
 use reference::replay::Session;
 use reference::rows::{self, Row};
 use reference::schedule::{self, FIELDS, Schedule};
+use reference::summary;
 use reference::tally;
 
 const ID: [u8; 16] = *b"002D6E1B34565815";
@@ -25,23 +28,41 @@ fn file(path: &str) -> String {
     fs::read_to_string(root.join(path)).expect("a file of the repository")
 }
 
-/// The cells of the table in a section of the page, found by the title of its first column.
-fn table(section: &str, first: &str) -> Vec<Vec<String>> {
+/// The lines of a section of the page, up to the next title of any level.
+fn section(title: &str) -> Vec<String> {
     let page = file("docs/PROTOCOL.md");
-    let mut lines = page
-        .lines()
-        .skip_while(|line| line.trim_start_matches('#') != format!(" {section}"))
+    page.lines()
+        .skip_while(|line| line.trim_start_matches('#') != format!(" {title}"))
         .skip(1)
         .take_while(|line| !line.starts_with('#'))
+        .map(String::from)
+        .collect()
+}
+
+/// The cells of the table in a section of the page, found by the title of its first column.
+fn table(title: &str, first: &str) -> Vec<Vec<String>> {
+    let lines = section(title);
+    let mut lines = lines
+        .iter()
         .skip_while(|line| !line.starts_with(&format!("| {first} |")));
     let width = cells(lines.next().expect("the table's head")).len();
     let rows: Vec<_> = lines
         .skip(1)
         .take_while(|line| line.starts_with('|'))
-        .map(cells)
+        .map(|line| cells(line))
         .collect();
-    assert!(rows.iter().all(|row| row.len() == width), "{section}");
+    assert!(rows.iter().all(|row| row.len() == width), "{title}");
     rows
+}
+
+/// The blocks of indented lines in a section of the page.
+fn blocks(title: &str) -> Vec<Vec<String>> {
+    let lines = section(title);
+    let blocks = lines.split(|line| !line.starts_with("    "));
+    blocks
+        .filter(|block| !block.is_empty())
+        .map(|block| block.iter().map(|line| line.trim().to_string()).collect())
+        .collect()
 }
 
 fn cells(line: &str) -> Vec<String> {
@@ -318,31 +339,235 @@ fn the_discovery_is_answered_so() {
 #[test]
 fn packets_and_listing_are_written_so() {
     let page = file("docs/PROTOCOL.md");
-    let shown: Vec<String> = page
-        .lines()
-        .filter_map(|line| line.strip_prefix("    "))
-        .map(|line| line.replace(' ', ""))
-        .collect();
+    let packets = blocks("The packet").concat();
+    let [request, response] = [0, 1].map(|place: usize| packets[place].replace(' ', ""));
     let mut board = Board::new(PASSWORD, 1);
-    assert_eq!(shown[0], packet(ZERO_ID, PASSWORD, 1, "01 02"));
+    assert_eq!(request, packet(ZERO_ID, PASSWORD, 1, "01 02"));
     assert_eq!(board.ask(2, "01 00 02 03"), "silence");
-    let answer = board.call(&format!("packet 256 {}", shown[0]));
-    assert_eq!(answer, format!("response {}", shown[1]));
+    let answer = board.call(&format!("packet 256 {request}"));
+    assert_eq!(answer, format!("response {response}"));
     let block = "FF 01 FD 01 04 05 FF 02 FE 02 40 51 68";
     assert!(page.contains(&format!("`{block}` reports")));
     let response = packet(ZERO_ID, PASSWORD, 6, block);
     let listing = board.call(&format!("list {response}"));
-    assert_eq!(listing, shown[2..].join("|"));
+    assert_eq!(
+        listing,
+        blocks("The listing of a response").concat().join("|")
+    );
+}
+
+/// A record of a capture of two boards.
+fn kept() -> Captured {
+    Captured {
+        index: 1,
+        direction: 1,
+        counter: 0x0102_0304,
+        packet: vec![0xFD, 9, 7],
+    }
+}
+
+#[test]
+fn captures_have_the_parts() {
+    let ids = [ID, [0x41; 16]].concat();
+    let mut buffer = [0; 100];
+    let size = capture::write(&mut buffer, &ids, &[kept()]).expect("a capture");
+    let head = table("Captures", "Place");
+    let record = table("Captures", "Place in a record");
+    let parts: [&[u8]; 9] = [
+        &bytes(quoted(&head[0][3])),
+        &bytes(quoted(&head[1][3])),
+        &[2],
+        &ids,
+        &[1],
+        &[1],
+        &[4, 3, 2, 1],
+        &[3, 0],
+        &[0xFD, 9, 7],
+    ];
+    let size_of = |cell: &str| match cell {
+        "16 b" => 16 * 2,
+        "n" => 3,
+        number => number.parse().expect("a number of bytes"),
+    };
+    let start = head.iter().map(|cells| size_of(&cells[1])).sum::<usize>();
+    let starts = head.iter().map(|_| 0).chain(record.iter().map(|_| start));
+    let mut end = 0;
+    for ((cells, start), part) in head.iter().chain(&record).zip(starts).zip(parts) {
+        let place = start + cells[0].parse::<usize>().expect("a place");
+        assert_eq!((place, size_of(&cells[1])), (end, part.len()), "{cells:?}");
+        end += part.len();
+        assert_eq!(&buffer[place..end], part, "{cells:?}");
+    }
+    assert_eq!(end, size);
+}
+
+/// What stands between the first two backquotes of a cell.
+fn quoted(cell: &str) -> &str {
+    cell.split('`').nth(1).expect("quoted bytes")
+}
+
+/// The range of a part of a capture of three boards, `low to high` in its cell.
+fn part_range(title: &str, part: &str) -> RangeInclusive<usize> {
+    let rows = table("Captures", title);
+    let row = rows.iter().find(|cells| cells[2] == part);
+    let content = row.expect("the part")[3].replace("b - 1", "2");
+    let (low, high) = content.split_once(" to ").expect("a range");
+    let low = low.split(' ').next_back().expect("a number");
+    let high = high.split([':', ' ']).next().expect("a number");
+    low.parse().expect("a number")..=high.parse().expect("a number")
+}
+
+#[test]
+fn captures_have_the_ranges() {
+    let read = |count: usize, rest: &[u8]| {
+        let head = [&b"VLG\x01\x00"[..], &[count as u8], &vec![0; 16 * count]].concat();
+        capture::read(&[&head, rest].concat())
+    };
+    let boards = part_range("Place", "board count");
+    for count in 0..=255 {
+        let accepted = read(count, &[]).refusal.is_none();
+        assert_eq!(accepted, boards.contains(&count), "{count}");
+    }
+    let [index, direction, length] =
+        ["index", "direction", "length"].map(|part| part_range("Place in a record", part));
+    for value in 0..=255 {
+        let accepted = |record: &[u8]| read(3, record).refusal.is_none();
+        let byte = value as u8;
+        assert_eq!(
+            accepted(&[byte, 0, 0, 0, 0, 0, 0, 0]),
+            index.contains(&value)
+        );
+        let is_direction = direction.contains(&value);
+        assert_eq!(accepted(&[0, byte, 0, 0, 0, 0, 0, 0]), is_direction);
+        for place in 2..6 {
+            let mut record = [0; 8];
+            record[place] = byte;
+            assert!(accepted(&record));
+        }
+    }
+    for value in (0..=1_100).chain([32_768, 65_535]) {
+        let [low, high] = (value as u16).to_le_bytes();
+        let record = [&[0, 0, 0, 0, 0, 0, low, high][..], &vec![0; value]].concat();
+        let accepted = read(3, &record).refusal.is_none();
+        assert_eq!(accepted, length.contains(&value), "{value}");
+    }
+}
+
+#[test]
+fn a_refused_reading_gives_what_is_said() {
+    let whole = capture::compose(&[ID, ID].concat(), &[kept(), kept()]);
+    for cells in table("Reading a capture", "No.") {
+        let number: u8 = cells[0].parse().expect("a number");
+        // The mark, the version, the board count and the index of the second record.
+        let place = [0, 3, 5, whole.len() - 11][usize::from(number - 50)];
+        let mut damaged = whole.clone();
+        damaged[place] = 0xFF;
+        let cut = &whole[..place + usize::from(number == 53)];
+        let mut expected = Reading::default();
+        for part in cells[2].split([',', ' ']) {
+            match part {
+                "version" => expected.version = 1,
+                "IDs" => expected.ids = vec![ID; 2],
+                "records" => expected.records = vec![kept()],
+                _ => {}
+            }
+        }
+        for capture in [&damaged, cut] {
+            let reading = capture::read(capture);
+            expected.refusal = reading.refusal;
+            assert_eq!(reading, expected, "{cells:?}");
+            assert_eq!(
+                reading.refusal.map(|refusal| refusal.number()),
+                Some(number)
+            );
+        }
+    }
+}
+
+/// The number that a packet is judged with.
+fn judged(direction: u8, packet: &[u8]) -> u8 {
+    let record = Captured {
+        direction,
+        packet: packet.to_vec(),
+        ..kept()
+    };
+    let refusal = summary::judge(&record).err();
+    refusal.map_or(0, |refusal| refusal.number())
+}
+
+fn judged_rows() -> Vec<Vec<String>> {
+    table("The summary of a capture", "Judged")
+}
+
+#[test]
+fn packets_are_judged_with_the_numbers() {
+    let rows = judged_rows().into_iter();
+    let numbers = rows.map(|cells| cells[0].parse().expect("a number"));
+    let listed: Vec<u8> = numbers.collect();
+    let lines = Subject::Captures.list(1, 3_000);
+    let captures = lines.iter().filter_map(|line| match call::parse(line) {
+        Some(Call::Summary { capture }) => Some(capture),
+        _ => None,
+    });
+    let records: Vec<Captured> = captures
+        .flat_map(|capture| capture::read(&capture).records)
+        .collect();
+    for direction in [0, 1] {
+        let numbers = records
+            .iter()
+            .map(|record| judged(direction, &record.packet));
+        let occurred: BTreeSet<u8> = numbers.collect();
+        assert_eq!(Vec::from_iter(occurred), listed);
+    }
+}
+
+#[test]
+fn functions_are_judged_by_the_direction() {
+    let rows = judged_rows();
+    let row = rows.iter().find(|cells| cells[0] == "9").expect("its row");
+    for (direction, cell) in [(0, &row[1]), (1, &row[2])] {
+        let quoted = cell.split('`').skip(1).step_by(2);
+        let ends: Vec<u8> = quoted
+            .map(|digits| digits.parse().expect("a function"))
+            .collect();
+        let functions = ends[0]..=ends[ends.len() - 1];
+        for function in 0..=255 {
+            let packet = reference::packet::write(&ID, b"", function, &[]);
+            let is_9 = judged(direction, &packet) == 9;
+            assert_eq!(is_9, !functions.contains(&function), "{function}");
+        }
+    }
+}
+
+#[test]
+fn the_capture_is_read_and_summed_up_so() {
+    let capture = blocks("Captures").concat().concat().replace(' ', "");
+    let packets = blocks("The packet").concat();
+    let [request, response] = [0, 1].map(|place: usize| packets[place].replace(' ', ""));
+    let mut session = Session::new();
+    let mut call = |line: String| session.line(line.as_bytes()).expect("an answer");
+    let read = format!(
+        "version 1 id:{ZERO_ID} rec:0.0.1000.{request} rec:0.1.1003.{response} rec:0.0.2000.FD"
+    );
+    assert_eq!(call(format!("capread {capture}")), read);
+    let texts = blocks("The summary of a capture");
+    assert_eq!(call(format!("summary {capture}")), texts[0].join("|"));
+    let cut = &capture[..capture.len() - 2];
+    assert_eq!(call(format!("summary {cut}")), texts[1].join("|"));
+    assert_eq!(texts.len(), 2);
 }
 
 /// Each call of a list with the section of the page that has its refusals.
-const SECTIONS: [(&str, &str); 6] = [
+const SECTIONS: [(&str, &str); 9] = [
     ("setup", "Setting up a board"),
     ("packet", "A packet"),
     ("measure", "A measurement"),
     ("write", "The tool writes a request"),
     ("read", "The tool reads a response"),
     ("list", "The listing of a response"),
+    ("capread", "Reading a capture"),
+    ("capwrite", "Writing a capture"),
+    ("summary", "The summary of a capture"),
 ];
 
 /// A call list cannot describe what 41 refuses.
@@ -371,9 +596,12 @@ fn refusals_are_those_that_occur() {
     let mut occurred = BTreeSet::new();
     let mut session = Session::new();
     let edges = edges::list().into_iter().map(|entry| entry.line);
-    for line in edges.chain(generate::list(1, 20_000)) {
+    let captures = Subject::Captures.list(1, 5_000);
+    for line in edges.chain(generate::list(1, 20_000)).chain(captures) {
         let answer = session.line(line.as_bytes()).unwrap_or_default();
-        let number = answer.strip_prefix("refused").map(|rest| rest[1..].parse());
+        // Behind a comma in a text of lines, else behind a space.
+        let refused = answer.rsplit_once("refused");
+        let number = refused.map(|(_, rest)| rest[1..].parse());
         if let (Some(number), Some(call)) = (number, line.split(' ').next()) {
             occurred.insert((call.to_string(), number.expect("a number")));
         }
