@@ -23,14 +23,18 @@ pub fn lines(capture: &[u8]) -> Vec<String> {
 fn count(records: &[Captured]) -> BTreeMap<(u16, u8), usize> {
     let mut counts = BTreeMap::new();
     for record in records {
-        let number = judge(record).err().map_or(0, Refusal::number);
-        *counts.entry((record.index, number)).or_default() += 1;
+        *counts.entry((record.index, judge(record))).or_default() += 1;
     }
     counts
 }
 
-/// Judges a response as the listing does, and a request likewise: ID and password are taken as they are.
-pub fn judge(record: &Captured) -> Result<(), Refusal> {
+/// The refusal that a packet meets, 0 for none.
+pub fn judge(record: &Captured) -> u8 {
+    check(record).err().map_or(0, Refusal::number)
+}
+
+/// Checks a response as the listing does, and a request likewise: ID and password are taken as they are.
+fn check(record: &Captured) -> Result<(), Refusal> {
     match record.direction {
         capture::RESPONSE => listing::reports(&record.packet).map(|_| ()),
         _ => {
@@ -55,8 +59,7 @@ mod tests {
     }
 
     fn judged(direction: u8, packet: &[u8]) -> u8 {
-        let judged = judge(&captured(0, direction, packet));
-        judged.err().map_or(0, Refusal::number)
+        judge(&captured(0, direction, packet))
     }
 
     fn framed(function: u8, data: &[u8]) -> Vec<u8> {

@@ -486,13 +486,11 @@ fn a_refused_reading_gives_what_is_said() {
 
 /// The number that a packet is judged with.
 fn judged(direction: u8, packet: &[u8]) -> u8 {
-    let record = Captured {
+    summary::judge(&Captured {
         direction,
         packet: packet.to_vec(),
         ..kept()
-    };
-    let refusal = summary::judge(&record).err();
-    refusal.map_or(0, |refusal| refusal.number())
+    })
 }
 
 fn judged_rows() -> Vec<Vec<String>> {

@@ -133,22 +133,31 @@ impl Generator {
 
     /// A line of exactly 65,536 characters, or just under.
     pub fn long_capture_line(&mut self) {
-        let ids = captured::ids(&mut self.random, 2);
-        let room = self.random.pick(&[MOST_ROOM, MOST_ROOM, 100_000, 32_000]);
+        let boards = self.random.pick(&[1, 2]);
+        let ids = captured::ids(&mut self.random, boards);
         if self.random.chance(40) {
-            let records = match self.random.chance(50) {
-                true => vec![captured::record(&mut self.random, &ids)],
-                false => self.records_of(&ids, 30_000),
-            };
-            let records = filled_up(room, &ids, records);
-            self.write_capture(room, ids, records);
+            self.long_write(ids);
             return;
         }
         let longest = (LONGEST_LINE - "capread ".len()) / 2;
-        let records = self.records_of(&ids, longest);
+        let records = match self.random.chance(70) {
+            true => self.records_of(&ids, longest),
+            false => Vec::new(),
+        };
         let mut bytes = Sketch::new(&ids, &records).bytes;
+        // What is filled up has records without a packet, as many as there is place for, and then a cut one.
         bytes.resize(longest, 0);
         self.read_and_sum_up(bytes);
+    }
+
+    fn long_write(&mut self, ids: Vec<Vec<u8>>) {
+        let room = self.random.pick(&[MOST_ROOM, MOST_ROOM, 100_000, 32_000]);
+        let records = match self.random.chance(50) {
+            true => vec![captured::record(&mut self.random, &ids)],
+            false => self.records_of(&ids, 30_000),
+        };
+        let records = filled_up(room, &ids, records);
+        self.write_capture(room, ids, records);
     }
 
     fn contents(&mut self) -> (Vec<Vec<u8>>, Vec<Captured>) {
@@ -205,7 +214,7 @@ impl Generator {
 /// The records, and as many short ones behind them as the longest line has place for.
 fn filled_up(room: usize, ids: &[Vec<u8>], records: Vec<Captured>) -> Vec<Captured> {
     let short = Captured {
-        index: 1,
+        index: 0,
         direction: capture::RESPONSE,
         counter: 0,
         packet: Vec::new(),
@@ -216,7 +225,7 @@ fn filled_up(room: usize, ids: &[Vec<u8>], records: Vec<Captured>) -> Vec<Captur
         records: records.clone(),
     };
     let place = LONGEST_LINE - call.to_string().len();
-    let more = place / " 1.1.0.-".len();
+    let more = place / " 0.1.0.-".len();
     let more = std::iter::repeat_n(short, more);
     records.into_iter().chain(more).collect()
 }

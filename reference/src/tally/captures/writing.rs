@@ -1,0 +1,129 @@
+//! What the writing of a capture meets.
+
+use std::collections::BTreeSet;
+
+use super::also;
+use crate::capture::{self, Captured, MOST_BOARDS};
+use crate::packet::{ID_SIZE, LONGEST};
+
+pub const WRITES: [&str; 30] = [
+    "written",
+    "written: no record",
+    "written: 1 board",
+    "written: 16 boards",
+    "written: the buffer's whole length",
+    "written: one byte of the buffer left",
+    "written: more of the buffer left",
+    "written: IDs in other parts",
+    "written: more than 255 records",
+    "written: a packet of 0 bytes",
+    "written: a packet of 256 bytes",
+    "refused 52: no board",
+    "refused 52: 17 boards",
+    "refused 52: more boards",
+    "refused 52: no multiple of 16",
+    "refused 52: also 53",
+    "refused 52: also 54",
+    "refused 53: index at the board count",
+    "refused 53: index 255",
+    "refused 53: index over 255, low byte in range",
+    "refused 53: direction 2",
+    "refused 53: direction 255",
+    "refused 53: packet of 257 bytes",
+    "refused 53: packet of 512 bytes",
+    "refused 53: only the last record",
+    "refused 53: not the last record",
+    "refused 53: also 54",
+    "refused 54: one byte too short",
+    "refused 54: more bytes too short",
+    "refused 54: no byte",
+];
+
+pub fn met(room: usize, ids: &[Vec<u8>], records: &[Captured], answer: &str) -> BTreeSet<String> {
+    let given = ids.concat();
+    let boards = given.len() / ID_SIZE;
+    let size = capture::compose(&given, records).len();
+    let bad: Vec<Vec<String>> = records
+        .iter()
+        .map(|record| written_causes(boards, record))
+        .collect();
+    let is_bad = bad.iter().any(|causes| !causes.is_empty());
+    let (head, causes) = match answer {
+        "refused 52" => (answer, id_causes(&given, is_bad, size > room)),
+        "refused 53" => (answer, bad_record_causes(bad, size > room)),
+        "refused 54" if room == 0 => (answer, vec!["no byte".to_string()]),
+        "refused 54" if size - room == 1 => (answer, vec!["one byte too short".to_string()]),
+        "refused 54" => (answer, vec!["more bytes too short".to_string()]),
+        _ => ("written", written(room - size, ids, records)),
+    };
+    let causes = causes.iter().map(|cause| format!("{head}: {cause}"));
+    causes.chain([head.to_string()]).collect()
+}
+
+fn id_causes(given: &[u8], also_53: bool, also_54: bool) -> Vec<String> {
+    let cause = match given.len() / ID_SIZE {
+        _ if !given.len().is_multiple_of(ID_SIZE) => "no multiple of 16",
+        0 => "no board",
+        17 => "17 boards",
+        _ => "more boards",
+    };
+    also([(also_53, "also 53"), (also_54, "also 54")])
+        .chain([cause.to_string()])
+        .collect()
+}
+
+fn bad_record_causes(bad: Vec<Vec<String>>, also_54: bool) -> Vec<String> {
+    let first = bad.iter().position(|causes| !causes.is_empty());
+    let last = first.map(|first| first + 1) == Some(bad.len());
+    also([
+        (last, "only the last record"),
+        (!last, "not the last record"),
+        (also_54, "also 54"),
+    ])
+    .chain(bad.concat())
+    .collect()
+}
+
+/// Why the writer refuses a record; none if it does not.
+fn written_causes(boards: usize, record: &Captured) -> Vec<String> {
+    let index = usize::from(record.index);
+    let mut causes = Vec::new();
+    if index == boards {
+        causes.push("index at the board count".to_string());
+    } else if index > 255 && index % 256 < boards {
+        causes.push("index over 255, low byte in range".to_string());
+    } else if index > boards {
+        causes.push(format!("index {index}"));
+    }
+    if record.direction > capture::RESPONSE {
+        causes.push(format!("direction {}", record.direction));
+    }
+    if record.packet.len() > LONGEST {
+        causes.push(format!("packet of {} bytes", record.packet.len()));
+    }
+    causes
+}
+
+fn written(left: usize, ids: &[Vec<u8>], records: &[Captured]) -> Vec<String> {
+    let of_length = |length: usize| records.iter().any(|record| record.packet.len() == length);
+    let boards = ids.concat().len() / ID_SIZE;
+    let rest = match left {
+        0 => "the buffer's whole length",
+        1 => "one byte of the buffer left",
+        _ => "more of the buffer left",
+    };
+    also([
+        (true, rest),
+        (boards == 1, "1 board"),
+        (boards == MOST_BOARDS, "16 boards"),
+        (records.is_empty(), "no record"),
+        (records.len() > 255, "more than 255 records"),
+        (
+            ids.iter().any(|id| id.len() != ID_SIZE),
+            "IDs in other parts",
+        ),
+        (of_length(0), "a packet of 0 bytes"),
+        (of_length(LONGEST), "a packet of 256 bytes"),
+    ])
+    .collect()
+}
