@@ -266,7 +266,7 @@ fn insert_out_of_range(
 /// Gives the writer other IDs: none, too many, of another length, or the same bytes in other parts.
 fn change_ids(random: &mut Random, ids: &mut Vec<Vec<u8>>) {
     let last = ids.len() - 1;
-    match random.between(0, 5) {
+    match random.between(0, 6) {
         0 => ids.clear(),
         1 => {
             let boards = random.pick(&[17, 17, 18, 32]);

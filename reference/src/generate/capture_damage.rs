@@ -87,7 +87,9 @@ impl Sketch {
     fn cut_head(&mut self, random: &mut Random) {
         let any = random.between(0, self.starts[0] - 1);
         let before_ids = random.between(0, IDS);
-        self.bytes.truncate(random.pick(&[any, any, before_ids]));
+        let last = self.starts[0] - 1;
+        let length = random.pick(&[any, any, any, before_ids, before_ids, last]);
+        self.bytes.truncate(length);
     }
 
     /// One bit, one byte more, one byte less.
@@ -143,6 +145,7 @@ impl Sketch {
         let held = u16::from_le_bytes(field);
         let any = random.next_number() as u16;
         let length = random.pick(&[
+            257,
             257,
             257,
             65_535,
