@@ -87,7 +87,7 @@ pub fn read(packet: &[u8], id: &[u8], password: &[u8]) -> Response
 }
 
 // Judges a response of which ID and password are taken as they are.
-pub(crate) fn read_any(packet: &[u8]) -> Response
+pub fn read_any(packet: &[u8]) -> Response
     ensures { λ r. ⌜ r ≡ anyResponseOf (now (packet .entry)) ⌝ }
 {
     let parsed = framing::read(packet);

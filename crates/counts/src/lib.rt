@@ -1,0 +1,2 @@
+// Counts the packets of a capture by board and refusal, and writes the counts as text.
+pub mod judging;
