@@ -1,1 +1,9 @@
 pub mod Judged
+pub mod Counted
+pub mod Decimals
+pub mod Each
+pub mod Lines
+pub mod Shown
+pub mod Numbers
+pub mod Pairs
+pub mod Summaries

@@ -1,1 +1,4 @@
 pub mod Judging
+pub mod Counting
+pub mod Text
+pub mod Statements

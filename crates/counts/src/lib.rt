@@ -1,2 +1,4 @@
 // Counts the packets of a capture by board and refusal, and writes the counts as text.
+pub mod counting;
 pub mod judging;
+pub mod text;

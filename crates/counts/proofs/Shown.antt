@@ -1,0 +1,66 @@
+-- Texts shown in a buffer: too long for it, or written in two parts.
+use Prim.Native.Nat.{ℕ, _+_, _-_, _<_, _≤_}
+use native.Mathlib.Omega.{arith}
+use mathlib.Core.Bool.{Bool, true, false, cond}
+use mathlib.Core.List.{List, _++_}
+use mathlib.Core.Path.{_≡_, refl, sym, ap, _∙_}
+use borrow.Author.Tests.{leb-true, leb-false, le-leb, lt-leb}
+use lib.Dec.{leb}
+use lib.ListN.{length, length-append}
+use Rattle.octets.specs.Octets.{overwrite, fits, Overwrites}
+use Rattle.octets.proofs.Overwriting.{overwrites-after}
+use Rattle.counts.specs.Text.{roomAfter, WritesLines, Shows}
+use Rattle.counts.specs.declared.text.Room.{Room}
+use Rattle.counts.specs.declared.text.Room.the-variants as room
+use Rattle.counts.specs.declared.text.Shown.{Shown}
+use Rattle.counts.specs.declared.text.Shown.the-variants.{Length, NoRoom}
+
+left-by : (t : Bool) {answer : Room} (rest : ℕ) {left : ℕ} → answer ≡ cond t (room.Left rest) room.NoRoom → answer ≡ room.Left left → (t ≡ true) × (left ≡ rest)
+left-by true rest e h = (refl, cc)
+left-by false rest e h = ((cc), (cc))
+
+none-by : (t : Bool) {answer : Room} (rest : ℕ) → answer ≡ cond t (room.Left rest) room.NoRoom → answer ≡ room.NoRoom → t ≡ false
+none-by true rest e h = cc
+none-by false rest e h = refl
+
+-- what the room left tells of a text's length
+module _ (space : ℕ) (text : List ℕ) {answer : Room} (e : answer ≡ roomAfter space text) where
+  pub text-fits : {left : ℕ} → answer ≡ room.Left left → length text + left ≡ space
+  text-fits h =
+      let told = left-by (leb (length text) space) (space - length text) e h in
+      omega (arith, told .1, leb-true (length text) space (told .0))
+
+  pub text-longer : answer ≡ room.NoRoom → space < length text
+  text-longer h = leb-false (length text) space (none-by (leb (length text) space) (space - length text) e h)
+
+module _ (buffer first second : List ℕ) where
+  whole : length (first ++ second) ≡ length first + length second
+  whole = length-append first second
+
+  pub too-long : length buffer < length first + length second → Shows (first ++ second) buffer NoRoom buffer
+  too-long h =
+      let no-room : leb (0 + length (first ++ second)) (length buffer) ≡ false = lt-leb (0 + length (first ++ second)) (length buffer) (omega (arith, whole)) in
+      record { answered = rw no-room; held = rw no-room }
+
+  pub both-shown :
+      {at size : ℕ} {between after : List ℕ} {answer : Bool} → length first + length second ≤ length buffer → WritesLines first buffer at between
+      → Overwrites between at second answer after → size ≡ length second → Shows (first ++ second) buffer (Length (at + size)) after
+  both-shown {at} {size} h lines last e =
+      let in-room : leb (0 + length (first ++ second)) (length buffer) ≡ true = le-leb (0 + length (first ++ second)) (length buffer) (omega (arith, whole)) in
+      let ends : at + size ≡ length (first ++ second) = omega (arith, whole, lines .ends) in
+      record {
+        answered = rw in-room (ap Length ends);
+        held =
+            rw in-room
+            (overwrites-after buffer 0 first last (omega (arith, lines .ends)) (lines .stored) (omega (arith, lines .ends)));
+      }
+
+shown-by : (fit : Bool) (size : ℕ) {answer : Shown} {told : ℕ} → answer ≡ cond fit (Length size) NoRoom → answer ≡ Length told → (fit ≡ true) × (told ≡ size)
+shown-by true size e h = (refl, cc)
+shown-by false size e h = ((cc), (cc))
+
+-- what is shown ends within its buffer
+pub shown-size : (text buffer : List ℕ) {answer : Shown} {after : List ℕ} {told : ℕ} → Shows text buffer answer after → answer ≡ Length told → told ≤ length buffer
+shown-size text buffer w h =
+    let by = shown-by (fits buffer 0 text) (length text) (w .answered) h in
+    omega (arith, by .1, leb-true (0 + length text) (length buffer) (by .0))

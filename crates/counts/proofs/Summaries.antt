@@ -1,0 +1,141 @@
+-- The text of a capture's counts is its summary.
+use Prim.Native.Nat.{ℕ, zero, suc, _+_, _*_, _/_, _%_, _<_, _≤_}
+use native.Mathlib.Omega.{arith}
+use mathlib.Core.Bool.{Bool, true, false, cond, not}
+use mathlib.Core.List.{List, [], _∷_, _++_}
+use mathlib.Core.Option.{Option, none, some, orElse}
+use mathlib.Core.Path.{_≡_, refl, sym, ap, _∙_}
+use borrow.Author.Tests.{ne-eqb}
+use lib.Dec.{ltb, eqb}
+use lib.ListN.{length, drop, getD, length-drop, length-replicate}
+use Rattle.framing.specs.Refusal.{Refusal, refusal, firstRefusal}
+use Rattle.framing.proofs.Refusals.{first-of-joined, refused-then, passed-then}
+use Rattle.captures.specs.Form.{indexSize, packetAt, Record, boardLimit}
+use Rattle.captures.specs.Reading.{boardCount, recordsAt, sizeIn, recordIn, inRange, headRefusals, headRefusal, Reading, left, wrong, item, reading, read, readIn, recordsOf, wrongRecord, recordsAs, recordsIn, captureRefusals, captureRefusal, openedAs, openedOf}
+use Rattle.captures.specs.declared.reading.Opened.the-variants as opened
+use Rattle.tool.specs.Listing.{refusedLine}
+use Rattle.counts.specs.Counting.{numbersPerBoard, placeOf, countLimit, countOf, counted, endOf, endingNumber, Counts}
+use Rattle.counts.specs.declared.counting.Ending.{Ending}
+use Rattle.counts.specs.Text.{each, pairLine, recordLines, refusedAs, summaryOf, lineAt, linesOf, lastLine, textOf}
+use Rattle.counts.specs.Statements.{zeros}
+use Rattle.counts.proofs.Each.{each-same, each-board}
+use Rattle.counts.proofs.Numbers.{head-some}
+use Rattle.counts.proofs.Pairs.{length-counted, pairs-counted}
+
+-- a record takes a byte at the least
+records-in : (boards : ℕ) (bytes : List ℕ) (k : ℕ) → length (recordsOf (reading boards bytes k)) ≤ length bytes
+unfolding reading recordsOf
+records-in boards [] k = omega arith
+records-in boards (b ∷ s) (suc k) = omega (arith, records-in boards s k)
+records-in boards (b ∷ s) zero =
+    by-tests (ltb (length (b ∷ s)) packetAt) (inRange boards (b ∷ s)) (ltb (length (b ∷ s)) (packetAt + sizeIn (b ∷ s)))
+    (reading boards s (indexSize + 6 + sizeIn (b ∷ s))) (records-in boards s (indexSize + 6 + sizeIn (b ∷ s)))
+  where
+    by-tests :
+        (head right cut : Bool) (after : Reading) → length (recordsOf after) ≤ length s
+        → length (recordsOf (cond head (left (b ∷ s)) (cond (not right) wrong (cond cut (left (b ∷ s)) (item (recordIn (b ∷ s)) after))))) ≤ length (b ∷ s)
+    by-tests true right cut after h = omega arith
+    by-tests false false cut after h = omega arith
+    by-tests false true true after h = omega arith
+    by-tests false true false after h = omega arith
+
+pub records-few : (boards : ℕ) (bytes : List ℕ) → length (recordsOf (read boards bytes)) ≤ length bytes
+records-few boards bytes = records-in boards bytes 0
+
+-- the counts of all boards
+abbrev pub none-yet : List ℕ
+none-yet = zeros (boardLimit * numbersPerBoard)
+
+line-same :
+    (records : List Record) → length records ≤ countLimit → (index : ℕ) → index < boardLimit → (number : ℕ) → number < numbersPerBoard
+    → lineAt (counted none-yet records) (placeOf index number) ≡ pairLine index number (countOf records index number)
+line-same records few index inside number small =
+    let board : placeOf index number / numbersPerBoard ≡ index = omega arith in
+    let which : placeOf index number % numbersPerBoard ≡ number = omega arith in
+    let count = pairs-counted (boardLimit * numbersPerBoard) records index number few small (omega arith) in
+    λ i. pairLine (board i) (which i) (count i)
+
+pub counted-lines : (records : List Record) → length records ≤ countLimit → linesOf (counted none-yet records) ≡ recordLines records
+unfolding linesOf
+counted-lines records few =
+    let size : length (counted none-yet records) ≡ boardLimit * numbersPerBoard =
+    length-counted none-yet records ∙ length-replicate {A = ℕ} (boardLimit * numbersPerBoard) 0 in
+    ap (λ (n : ℕ). each n (lineAt (counted none-yet records))) size
+    ∙ each-board boardLimit (lineAt (counted none-yet records))
+    ∙ each-same boardLimit (λ index inside. each-same numbersPerBoard (line-same records few index inside))
+
+-- how the head of a capture was opened
+module _ (capture : List ℕ) where
+  refused-by : (refused : Option ℕ) {number : ℕ} → openedAs refused capture ≡ opened.Refused number → refused ≡ some number
+  refused-by none e = cc
+  refused-by (some n) e = cc
+
+  pub record Accepted (boards records : ℕ) : Type 0 where
+    pub accepted : headRefusal capture ≡ none
+    pub boards-told : boards ≡ boardCount capture
+    pub records-told : records ≡ recordsAt capture
+
+  accepted-by :
+      (refused : Option ℕ) {boards ids records : ℕ} → openedAs refused capture ≡ opened.Capture boards ids records
+      → (refused ≡ none) × ((boards ≡ boardCount capture) × (records ≡ recordsAt capture))
+  accepted-by none e = (refl, ((cc), (cc)))
+  accepted-by (some n) e = ((cc), ((cc), (cc)))
+
+  pub accepted-as : {boards ids records : ℕ} → openedOf capture ≡ opened.Capture boards ids records → Accepted boards records
+  accepted-as e =
+      let told = accepted-by (headRefusal capture) e in
+      record { accepted = told .0; boards-told = told .1 .0; records-told = told .1 .1 }
+
+  refusal-then : captureRefusal capture ≡ orElse (headRefusal capture) (cond (wrongRecord (readIn capture)) (some 53) none)
+  unfolding captureRefusal captureRefusals headRefusal firstRefusal
+  refusal-then = first-of-joined capture headRefusals (refusal 53 (λ (c : List ℕ). wrongRecord (readIn c)) ∷ [])
+
+  last-refused : {number : ℕ} → openedOf capture ≡ opened.Refused number → lastLine number ≡ refusedLine number
+  last-refused {number} e =
+      let some-number = head-some capture (refused-by (headRefusal capture) e) in
+      rw (ne-eqb number 0 (λ z. omega arith))
+
+  -- a refused head
+  pub summary-refused : {number : ℕ} → openedOf capture ≡ opened.Refused number → summaryOf capture ≡ textOf [] number
+  unfolding linesOf each countOf
+  summary-refused {number} e =
+      let head = refused-by (headRefusal capture) e in
+      (λ i. recordLines (recordsAs (head i) capture) ++ refusedAs ((refusal-then ∙ refused-then _ head) i))
+      ∙ sym (last-refused e)
+
+-- the last line is that of 53, where the reading ended in it
+left-last : (none-left : Bool) → lastLine (cond none-left 0 53) ≡ refusedAs (cond (not none-left) (some 53) none)
+left-last true = refl
+left-last false = refl
+
+ending-last : (r : Reading) → lastLine (endingNumber (endOf r)) ≡ refusedAs (cond (wrongRecord r) (some 53) none)
+unfolding endOf wrongRecord
+ending-last (left bytes) = left-last (eqb (length bytes) 0)
+ending-last wrong = refl
+ending-last (item r after) = ending-last after
+
+-- an accepted head, and the records after it
+pub summary-counted :
+    (capture : List ℕ) {boards ids records : ℕ} → openedOf capture ≡ opened.Capture boards ids records
+    → length (recordsOf (read boards (drop records capture))) ≤ countLimit
+    → textOf (counted none-yet (recordsOf (read boards (drop records capture)))) (endingNumber (endOf (read boards (drop records capture)))) ≡ summaryOf capture
+summary-counted capture {boards} {ids} {records} e few =
+    let told = accepted-as capture e in
+    let same : read boards (drop records capture) ≡ readIn capture = λ i. read (told .boards-told i) (drop (told .records-told i) capture) in
+    let refused : captureRefusal capture ≡ cond (wrongRecord (readIn capture)) (some 53) none = refusal-then capture ∙ passed-then _ (told .accepted) in
+    (λ i. counted-lines (recordsOf (read boards (drop records capture))) few i ++ ending-last (read boards (drop records capture)) i)
+    ∙ (λ i. recordLines (recordsOf (same i)) ++ refusedAs (cond (wrongRecord (same i)) (some 53) none))
+    ∙ (λ i. recordLines (recordsAs (sym (told .accepted) i) capture) ++ refusedAs (sym refused i))
+
+-- as `count` counted them
+pub summary-shown :
+    (capture : List ℕ) {boards ids records : ℕ} → openedOf capture ≡ opened.Capture boards ids records → length capture ≤ countLimit
+    → {bytes : List ℕ} → bytes ≡ drop records capture → {counts : List ℕ} {ending : Ending} → Counts boards bytes none-yet ending counts
+    → {number : ℕ} → number ≡ endingNumber ending → textOf counts number ≡ summaryOf capture
+summary-shown capture {boards} {ids} {records} e short {bytes} at {counts} {ending} done {number} told =
+    let few : length (recordsOf (read boards (drop records capture))) ≤ countLimit =
+    omega (arith, records-few boards (drop records capture), length-drop records capture) in
+    let same : read boards bytes ≡ read boards (drop records capture) = ap (read boards) at in
+    (λ i. textOf ((done .held ∙ ap (λ (r : Reading). counted none-yet (recordsOf r)) same) i)
+    ((told ∙ ap endingNumber (done .answered ∙ ap endOf same)) i))
+    ∙ summary-counted capture e few
