@@ -27,7 +27,7 @@ drop-set [] at value h = absurd (omega arith)
 drop-set (x ∷ xs) zero value h = refl
 drop-set (x ∷ xs) (suc at) value h = drop-set xs at value (omega arith)
 
-tenth : (digits : ℕ) {number : ℕ} → number < 10 ^ suc digits → number / 10 < 10 ^ digits
+pub tenth : (digits : ℕ) {number : ℕ} → number < 10 ^ suc digits → number / 10 < 10 ^ digits
 tenth digits {number} h =
     let less : number < 10 ^ digits * 10 = rw pow-suc at h in
     div-lt-iff-lt-mul {k = 10} (omega arith) .1 less

@@ -7,3 +7,5 @@ pub mod Shown
 pub mod Numbers
 pub mod Pairs
 pub mod Summaries
+pub mod Pieces
+pub mod ReadDecimals

@@ -96,12 +96,25 @@ module _ (capture : List ℕ) where
       rw (ne-eqb number 0 (λ z. omega arith))
 
   -- a refused head
-  pub summary-refused : {number : ℕ} → openedOf capture ≡ opened.Refused number → summaryOf capture ≡ textOf [] number
-  unfolding linesOf each countOf
-  summary-refused {number} e =
+  pub summary-refused : {number : ℕ} → openedOf capture ≡ opened.Refused number → summaryOf capture ≡ refusedLine number
+  unfolding each countOf
+  summary-refused e =
       let head = refused-by (headRefusal capture) e in
-      (λ i. recordLines (recordsAs (head i) capture) ++ refusedAs ((refusal-then ∙ refused-then _ head) i))
-      ∙ sym (last-refused e)
+      λ i. recordLines (recordsAs (head i) capture) ++ refusedAs ((refusal-then ∙ refused-then _ head) i)
+
+  pub refused-shown : {number : ℕ} → openedOf capture ≡ opened.Refused number → textOf [] number ≡ summaryOf capture
+  unfolding linesOf each
+  refused-shown e = last-refused e ∙ sym (summary-refused e)
+
+  -- the records after an accepted one
+  reading-same : {boards ids records : ℕ} → openedOf capture ≡ opened.Capture boards ids records → read boards (drop records capture) ≡ readIn capture
+  reading-same e =
+      let told = accepted-as e in
+      λ i. read (told .boards-told i) (drop (told .records-told i) capture)
+
+  pub records-same :
+      {boards ids records : ℕ} → openedOf capture ≡ opened.Capture boards ids records → recordsIn capture ≡ recordsOf (read boards (drop records capture))
+  records-same e = ap (λ (o : Option ℕ). recordsAs o capture) (accepted-as e .accepted) ∙ ap recordsOf (sym (reading-same e))
 
 -- the last line is that of 53, where the reading ended in it
 left-last : (none-left : Bool) → lastLine (cond none-left 0 53) ≡ refusedAs (cond (not none-left) (some 53) none)
@@ -121,7 +134,7 @@ pub summary-counted :
     → textOf (counted none-yet (recordsOf (read boards (drop records capture)))) (endingNumber (endOf (read boards (drop records capture)))) ≡ summaryOf capture
 summary-counted capture {boards} {ids} {records} e few =
     let told = accepted-as capture e in
-    let same : read boards (drop records capture) ≡ readIn capture = λ i. read (told .boards-told i) (drop (told .records-told i) capture) in
+    let same = reading-same capture e in
     let refused : captureRefusal capture ≡ cond (wrongRecord (readIn capture)) (some 53) none = refusal-then capture ∙ passed-then _ (told .accepted) in
     (λ i. counted-lines (recordsOf (read boards (drop records capture))) few i ++ ending-last (read boards (drop records capture)) i)
     ∙ (λ i. recordLines (recordsOf (same i)) ++ refusedAs (cond (wrongRecord (same i)) (some 53) none))

@@ -4,7 +4,7 @@ use mathlib.Core.Path.{sym, _∙_}
 use denote.Ref.{now}
 use lib.ListN.{length}
 use Rattle.counts.specs.Counting.{countLimit}
-use Rattle.counts.proofs.Summaries.{summary-refused, summary-shown}
+use Rattle.counts.proofs.Summaries.{refused-shown, summary-shown}
 use borrow.Author.Needs.{needs}
 use Rattle.counts.proofs.text.summary.Statement.{statement}
 use Rattle.counts.proofs.text.summary.Tie as tie
@@ -52,7 +52,7 @@ returns : tie.Need-returns
 returns c =
     let capture = now (c .before .before .before .before .before .before .before .before .before .before .before .args .capture) in
     let refused = sym (c .before .before .before .before .before .before .before .before .«open» .ensures) ∙ c .before .before .before .before .before .before .number .given .1 in
-    rw (summary-refused capture refused) (c .before .before .write .ensures)
+    rw (← refused-shown capture refused) (c .before .before .write .ensures)
 
 same-length-2 : tie.Need-same-length-2
 same-length-2 c = search needs
