@@ -9,3 +9,5 @@ pub mod Pairs
 pub mod Summaries
 pub mod Pieces
 pub mod ReadDecimals
+pub mod Moving
+pub mod TextSize

@@ -12,9 +12,9 @@ use Rattle.captures.specs.declared.reading.Opened.{Opened}
 use Rattle.captures.specs.declared.reading.Opened.the-variants as opened
 use Rattle.captures.proofs.Records.{read-resumed}
 use Rattle.captures.proofs.Pieces.{opened-front, inside}
-use Rattle.counts.specs.Counting.{countLimit, counted, endOf, endingNumber}
+use Rattle.counts.specs.Counting.{countLimit, counted, endOf, leftOf, endingNumber}
 use Rattle.counts.specs.Text.{textOf, summaryOf}
-use Rattle.counts.specs.Statements.{Progress, leftOf, isWrong, start, after, taken, allTaken, PiecesCount, progressNumber, progressText, textAs, headWithin, PiecesSummed}
+use Rattle.counts.specs.Statements.{Progress, isWrong, start, after, taken, allTaken, PiecesCount, progressNumber, progressText, textAs, headWithin, PiecesSummed}
 use Rattle.counts.proofs.Summaries.{none-yet, accepted-as, records-same, summary-refused, summary-counted}
 
 -- reading on from what is left

@@ -4,7 +4,7 @@ use mathlib.Core.Bool.{cond, _&&_}
 use mathlib.Core.List.{List, [], _∷_}
 use mathlib.Core.Path.{_≡_}
 use lib.Dec.{ltb, eqb}
-use lib.ListN.{length, getD, set}
+use lib.ListN.{length, take, drop, getD, set}
 use Rattle.captures.specs.Form.{Record}
 use Rattle.captures.specs.Reading.{Reading, left, wrong, item, read, recordsOf}
 use Rattle.counts.specs.Judging.{judged}
@@ -51,6 +51,12 @@ endOf (left bytes) = Left (length bytes)
 endOf wrong = Wrong
 endOf (item r after) = endOf after
 
+-- the bytes that are left
+unfoldable pub leftOf : Reading → List ℕ
+leftOf (left bytes) = bytes
+leftOf wrong = []
+leftOf (item r after) = leftOf after
+
 -- the number of the refusal, 0 for none, where no more bytes come
 abbrev pub endingNumber : Ending → ℕ
 endingNumber (Left size) = cond (eqb size 0) 0 53
@@ -60,3 +66,12 @@ endingNumber Wrong = 53
 pub record Counts (boards : ℕ) (bytes before : List ℕ) (answer : Ending) (after : List ℕ) : Type 0 where
   pub answered : answer ≡ endOf (read boards bytes)
   pub held : after ≡ counted before (recordsOf (read boards bytes))
+
+-- what stands in a window from `start` to `end`
+abbrev pub windowPart : ℕ → ℕ → List ℕ → List ℕ
+windowPart start end window = drop start (take end window)
+
+-- the contract of `count_window`: the records of a part of the window are counted, and the bytes that are left stand at its start
+pub record CountsWindow (boards : ℕ) (part before : List ℕ) (answer : Ending) (after window : List ℕ) : Type 0 where
+  pub counts : Counts boards part before answer after
+  pub kept : take (length (leftOf (read boards part))) window ≡ leftOf (read boards part)

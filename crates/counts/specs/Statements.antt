@@ -12,8 +12,8 @@ use Rattle.captures.specs.declared.reading.Opened.{Opened}
 use Rattle.captures.specs.declared.reading.Opened.the-variants as opened
 use Rattle.tool.specs.Listing.{refusedLine}
 use Rattle.counts.specs.Judging.{judged}
-use Rattle.counts.specs.Counting.{numbersPerBoard, placeOf, countLimit, countOf, counted}
-use Rattle.counts.specs.Text.{decimal, textOf, summaryOf}
+use Rattle.counts.specs.Counting.{numbersPerBoard, placeOf, countLimit, countOf, counted, leftOf}
+use Rattle.counts.specs.Text.{decimal, textOf, summaryOf, longestText}
 
 -- each number has room for its count: it is 0 to 10
 abbrev pub NumbersBounded : Type 0
@@ -37,16 +37,15 @@ numberFrom so-far (digit ∷ digits) = numberFrom (so-far * 10 + (digit - 0x30))
 abbrev pub DecimalsRead : Type 0
 DecimalsRead = (number : ℕ) → number < 10 ^ 20 → numberFrom 0 (decimal number) ≡ number
 
+-- a buffer of this size has room for the text of the counts of all boards
+abbrev pub TextsFit : Type 0
+TextsFit = (counts : List ℕ) (refusal : ℕ) → length counts ≤ boardLimit * numbersPerBoard → length (textOf counts refusal) ≤ longestText
+
 -- counting in pieces: the counts so far, the bytes left, and whether a field was outside its range
 pub record Progress : Type 0 where
   pub counts : List ℕ
   pub bytes : List ℕ
   pub stopped : Bool
-
-unfoldable pub leftOf : Reading → List ℕ
-leftOf (left bytes) = bytes
-leftOf wrong = []
-leftOf (item r after) = leftOf after
 
 unfoldable pub isWrong : Reading → Bool
 isWrong (left bytes) = false

@@ -1,5 +1,5 @@
 -- The summary of a capture: its text.
-use Prim.Native.Nat.{ℕ, zero, suc, _+_, _-_, _/_, _%_, _≤_}
+use Prim.Native.Nat.{ℕ, zero, suc, _+_, _-_, _*_, _/_, _%_, _≤_}
 use mathlib.Core.Bool.{cond}
 use mathlib.Core.List.{List, [], _∷_, _++_}
 use mathlib.Core.Option.{Option, none, some}
@@ -72,6 +72,10 @@ lastLine refusal = cond (eqb refusal 0) [] (refusedLine refusal)
 
 abbrev pub textOf : List ℕ → ℕ → List ℕ
 textOf counts refusal = linesOf counts ++ lastLine refusal
+
+-- a line for each count, of up to 27 bytes, and that of a refusal
+abbrev pub longestText : ℕ
+longestText = boardLimit * numbersPerBoard * 27 + 11
 
 -- a text shown in the first bytes of a buffer: its length, or that it does not fit and the buffer stays as it was
 pub record Shows (text buffer : List ℕ) (answer : Shown) (after : List ℕ) : Type 0 where

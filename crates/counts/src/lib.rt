@@ -2,3 +2,4 @@
 pub mod counting;
 pub mod judging;
 pub mod text;
+pub mod window;

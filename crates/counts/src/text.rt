@@ -1,5 +1,4 @@
 // Writes counts as text: a line for each board and number that occurs.
-use super::counting::Ending;
 use captures::reading::Opened;
 use tool::listing::Line;
 ghost use mathlib.Core.List.{_∷_, [], _++_};
@@ -16,6 +15,9 @@ pub enum Shown {
     // The text does not fit the buffer.
     NoRoom,
 }
+
+// Room for the text of the counts of all boards: lines of up to 27 bytes, and that of a refusal.
+pub const LONGEST_TEXT: usize = captures::BOARD_LIMIT * super::counting::NUMBERS * 27 + 11;
 
 // A number of 64 bits has up to 20 digits.
 const DIGITS: usize = 20;

@@ -1,0 +1,176 @@
+-- Bytes moved to the start of a window, and what is left of it.
+use Prim.Native.Nat.{ℕ, zero, suc, _+_, _-_, _<_, _≤_}
+use native.Mathlib.Numerals.{add-one}
+use native.Mathlib.Omega.{arith}
+use mathlib.Core.Bool.{Bool, true, false, cond, not}
+use mathlib.Core.List.{List, [], _∷_, _++_}
+use mathlib.Core.Path.{_≡_, refl, sym, ap, _∙_}
+use borrow.Author.Tests.{leb-true, leb-false}
+use lib.Dec.{leb, ltb}
+use lib.ListN.{length, take, drop, getD, set, length-set, length-drop, drop-of-length-le}
+use lib.Seq.{take-suc, take-suc-set, getD-drop, drop-set-lt, drop-drop, drop-length}
+use Rattle.captures.specs.Form.{indexSize, packetAt}
+use Rattle.captures.specs.Reading.{sizeIn, recordIn, inRange, Reading, left, wrong, item, reading, read}
+use Rattle.counts.specs.Counting.{endOf, leftOf, Counts, windowPart, CountsWindow}
+use Rattle.counts.specs.declared.counting.Ending.{Ending}
+use Rattle.counts.specs.declared.counting.Ending.the-variants.{Left, Wrong}
+
+-- the first i bytes are moved, and those after them stand as they stood
+pub record Moved (bytes : List ℕ) (from i : ℕ) (now : List ℕ) : Type 0 where
+  pub as-many : length now ≡ length bytes
+  pub moved : take i now ≡ take i (drop from bytes)
+  pub kept : drop i now ≡ drop i bytes
+
+module _ (bytes : List ℕ) (from i : ℕ) (now : List ℕ) (so-far : Moved bytes from i now) (inside : from + i < length bytes) where
+  value-same : getD now (from + i) 0 ≡ getD (drop from bytes) i 0
+  value-same =
+      let turned : from + i ≡ i + from = omega arith in
+      ap (λ (n : ℕ). getD now n 0) turned ∙ sym (getD-drop i now from 0)
+      ∙ ap (λ (l : List ℕ). getD l from 0) (so-far .kept)
+      ∙ getD-drop i bytes from 0 ∙ ap (λ (n : ℕ). getD bytes n 0) (sym turned) ∙ sym (getD-drop from bytes i 0)
+
+  pub move-one : Moved bytes from (i + 1) (set now i (getD now (from + i) 0))
+  move-one =
+      let here : i < length now = omega (arith, so-far .as-many) in
+      let there : i < length (drop from bytes) = simp length-drop (omega arith) in
+      record {
+        as-many = length-set now i (getD now (from + i) 0) ∙ so-far .as-many;
+        moved =
+            rw (add-one, take-suc-set now i (getD now (from + i) 0) here, take-suc (drop from bytes) i 0 there)
+            (λ k. so-far .moved k ++ (value-same k ∷ []));
+        kept =
+            drop-set-lt (i + 1) now i (getD now (from + i) 0) (omega arith)
+            ∙ sym (drop-drop 1 i now) ∙ ap (drop 1) (so-far .kept) ∙ drop-drop 1 i bytes;
+      }
+
+-- what is left of some bytes is their end
+pub record Ends (bytes rest : List ℕ) : Type 0 where
+  pub within : length rest ≤ length bytes
+  pub stands : drop (length bytes - length rest) bytes ≡ rest
+
+ends-whole : (bytes : List ℕ) → Ends bytes bytes
+ends-whole bytes =
+    let nothing : length bytes - length bytes ≡ 0 = omega arith in
+    record { within = omega arith; stands = ap (λ (n : ℕ). drop n bytes) nothing }
+
+ends-none : (bytes : List ℕ) → Ends bytes []
+ends-none bytes =
+    let all : length bytes - 0 ≡ length bytes = omega arith in
+    record { within = omega arith; stands = ap (λ (n : ℕ). drop n bytes) all ∙ drop-length bytes }
+
+ends-more : (b : ℕ) {s rest : List ℕ} → Ends s rest → Ends (b ∷ s) rest
+ends-more b {s} {rest} e =
+    let next : length (b ∷ s) - length rest ≡ suc (length s - length rest) = omega (arith, e .within) in
+    record { within = omega (arith, e .within); stands = ap (λ (n : ℕ). drop n (b ∷ s)) next ∙ e .stands }
+
+left-ends : (boards : ℕ) (bytes : List ℕ) (k : ℕ) → Ends bytes (leftOf (reading boards bytes k))
+unfolding reading leftOf
+left-ends boards [] k = ends-whole []
+left-ends boards (b ∷ s) (suc k) = ends-more b (left-ends boards s k)
+left-ends boards (b ∷ s) zero =
+    by-tests (ltb (length (b ∷ s)) packetAt) (inRange boards (b ∷ s)) (ltb (length (b ∷ s)) (packetAt + sizeIn (b ∷ s)))
+    (reading boards s (indexSize + 6 + sizeIn (b ∷ s))) (left-ends boards s (indexSize + 6 + sizeIn (b ∷ s)))
+  where
+    by-tests :
+        (head right cut : Bool) (after : Reading) → Ends s (leftOf after)
+        → Ends (b ∷ s) (leftOf (cond head (left (b ∷ s)) (cond (not right) wrong (cond cut (left (b ∷ s)) (item (recordIn (b ∷ s)) after)))))
+    by-tests true right cut after h = ends-whole (b ∷ s)
+    by-tests false false cut after h = ends-none (b ∷ s)
+    by-tests false true true after h = ends-whole (b ∷ s)
+    by-tests false true false after h = ends-more b h
+
+-- how many bytes are left
+left-size : (r : Reading) {size : ℕ} → endOf r ≡ Left size → length (leftOf r) ≡ size
+unfolding endOf leftOf
+left-size (left bytes) e = cc
+left-size wrong e = cc
+left-size (item r after) e = left-size after e
+
+left-none : (r : Reading) → endOf r ≡ Wrong → leftOf r ≡ []
+unfolding endOf leftOf
+left-none (left bytes) e = cc
+left-none wrong e = refl
+left-none (item r after) e = left-none after e
+
+-- a part of the first bytes is a part of all
+front-whole : (n : ℕ) (l : List ℕ) → take n l ≡ take (length (take n l)) l
+front-whole zero l = refl
+front-whole (suc n) [] = refl
+front-whole (suc n) (x ∷ xs) = ap (λ (rest : List ℕ). x ∷ rest) (front-whole n xs)
+
+front-part : (m n : ℕ) (l : List ℕ) → drop m (take n l) ≡ take (length (take n l) - m) (drop m l)
+front-part zero n l =
+    let all : length (take n l) - 0 ≡ length (take n l) = omega arith in
+    front-whole n l ∙ ap (λ (k : ℕ). take k l) (sym all)
+front-part (suc m) zero l =
+    let nothing : 0 - suc m ≡ 0 = omega arith in
+    ap (λ (k : ℕ). take k (drop (suc m) l)) (sym nothing)
+front-part (suc m) (suc n) [] =
+    let nothing : 0 - suc m ≡ 0 = omega arith in
+    ap (λ (k : ℕ). take k []) (sym nothing)
+front-part (suc m) (suc n) (x ∷ xs) =
+    let next : length (take (suc n) (x ∷ xs)) - suc m ≡ length (take n xs) - m = omega arith in
+    front-part m n xs ∙ ap (λ (k : ℕ). take k (drop m xs)) (sym next)
+
+-- the end of a part of a window, by where it stands
+module _ (start end : ℕ) (window rest : List ℕ) (e : Ends (windowPart start end window) rest) where
+  rest-within : length rest ≤ length (take end window)
+  rest-within = omega (arith, e .within, length-drop start (take end window))
+
+  rest-by : (t : Bool) → leb start (length (take end window)) ≡ t → rest ≡ drop (length (take end window) - length rest) (take end window)
+  rest-by true h =
+      let inside : start ≤ length (take end window) = leb-true _ _ h in
+      let place : start + (length (windowPart start end window) - length rest) ≡ length (take end window) - length rest = omega (arith, e .within, length-drop start (take end window)) in
+      sym (e .stands) ∙ drop-drop (length (windowPart start end window) - length rest) start (take end window)
+      ∙ ap (λ (n : ℕ). drop n (take end window)) place
+  rest-by false h =
+      let past : length (take end window) < start = leb-false _ _ h in
+      let none : length rest ≡ 0 = omega (arith, e .within, length-drop start (take end window)) in
+      sym (e .stands) ∙ drop-drop (length (windowPart start end window) - length rest) start (take end window)
+      ∙ drop-of-length-le (take end window) {i = start + (length (windowPart start end window) - length rest)} (omega arith)
+      ∙ sym (drop-of-length-le (take end window) {i = length (take end window) - length rest} (omega arith))
+
+  rest-stands : take (length rest) (drop (length (take end window) - length rest) window) ≡ rest
+  rest-stands =
+      let size : length (take end window) - (length (take end window) - length rest) ≡ length rest = omega (arith, rest-within) in
+      ap (λ (n : ℕ). take n (drop (length (take end window) - length rest) window)) (sym size)
+      ∙ sym (front-part (length (take end window) - length rest) end window)
+      ∙ sym (rest-by (leb start (length (take end window))) refl)
+
+-- what `count` answered of that part
+module _
+    (boards start end : ℕ) (window : List ℕ) {filled part counts after : List ℕ} {answer : Ending}
+    (front : filled ≡ take end window) (cut : part ≡ drop start filled) (done : Counts boards part counts answer after)
+  where
+    abbrev rest : List ℕ
+    rest = leftOf (read boards (windowPart start end window))
+
+    counted-part : Counts boards (windowPart start end window) counts answer after
+    counted-part = rw (cut ∙ ap (drop start) front) at done
+
+    rest-ends : Ends (windowPart start end window) rest
+    rest-ends = left-ends boards (windowPart start end window) 0
+
+    size-told : {size : ℕ} → answer ≡ Left size → length rest ≡ size
+    size-told e = left-size (read boards (windowPart start end window)) (sym (counted-part .answered) ∙ e)
+
+    pub left-within : {size : ℕ} → answer ≡ Left size → size ≤ length filled
+    left-within e = omega (arith, size-told e, ap length front, rest-within start end window rest rest-ends)
+
+    pub stopped : answer ≡ Wrong → CountsWindow boards (windowPart start end window) counts answer after window
+    stopped e =
+        let nothing = left-none (read boards (windowPart start end window)) (sym (counted-part .answered) ∙ e) in
+        record { counts = counted-part; kept = rw nothing }
+
+    pub kept-left :
+        {size : ℕ} {moved : List ℕ} → answer ≡ Left size → take size moved ≡ take size (drop (length filled - size) window)
+        → CountsWindow boards (windowPart start end window) counts (Left size) after moved
+    kept-left {size} {moved} e h =
+        let size-is = size-told e in
+        record {
+          counts = rw e at counted-part;
+          kept =
+              ap (λ (n : ℕ). take n moved) size-is ∙ h
+              ∙ (λ i. take (sym size-is i) (drop (length (front i) - sym size-is i) window))
+              ∙ rest-stands start end window rest rest-ends;
+        }

@@ -1,0 +1,39 @@
+// Counts the records of a capture that is read through a window.
+use super::counting::Ending;
+ghost use mathlib.Core.Path.{_≡_};
+ghost use Prim.Native.Nat.{_+_, _≤_};
+ghost use lib.ListN.{length, take, drop};
+ghost use Rattle.counts.specs.Counting.{windowPart, CountsWindow};
+
+// Moves `count` bytes from a place to the start.
+fn move_to_start(bytes: &mut [u8], from: usize, count: usize)
+    requires { ⌜ from + count ≤ length (now bytes) ⌝ }
+    ensures { λ _. ⌜ take count (now (bytes .exit)) ≡ take count (drop from (now (bytes .entry))) ⌝ }
+{
+    let mut i: usize = 0;
+    while i < count {
+        let at = from + i;
+        bytes[i] = bytes[at];
+        i += 1;
+    }
+}
+
+// Counts the records that stand in a window from `start` to `end`, and moves the bytes that are left to its start.
+pub fn count_window(
+    counts: &mut [u64],
+    window: &mut [u8],
+    start: usize,
+    end: usize,
+    boards: u16,
+) -> Ending
+    ensures { λ r. ⌜ CountsWindow boards (windowPart start end (now (window .entry))) (now (counts .entry)) r (now (counts .exit)) (now (window .exit)) ⌝ }
+{
+    let filled = octets::first_bytes(window, end);
+    let until = filled.len();
+    let ending = super::counting::count(counts, octets::bytes_after(filled, start), boards);
+    let Ending::Left(left) = ending else {
+        return ending;
+    };
+    move_to_start(window, until - left, left);
+    ending
+}
