@@ -7,8 +7,9 @@ use mathlib.Core.List.{List, [], _∷_, _++_}
 use mathlib.Core.Path.{_≡_, refl, sym, ap, _∙_}
 use borrow.Author.Tests.{leb-true, leb-false}
 use lib.Dec.{leb, ltb}
-use lib.ListN.{length, take, drop, getD, set, length-set, length-drop, drop-of-length-le}
-use lib.Seq.{take-suc, take-suc-set, getD-drop, drop-set-lt, drop-drop, drop-length}
+use lib.ListN.{length, take, drop, getD, set, length-set, length-drop, drop-of-length-le, take-append-drop}
+use lib.Seq.{take-suc, take-suc-set, getD-drop, drop-set-lt, drop-drop, drop-length, length-take-le}
+use Rattle.octets.specs.Octets.{overwrite}
 use Rattle.captures.specs.Form.{indexSize, packetAt}
 use Rattle.captures.specs.Reading.{sizeIn, recordIn, inRange, Reading, left, wrong, item, reading, read}
 use Rattle.counts.specs.Counting.{endOf, leftOf, Counts, windowPart, CountsWindow}
@@ -42,6 +43,18 @@ module _ (bytes : List ℕ) (from i : ℕ) (now : List ℕ) (so-far : Moved byte
             drop-set-lt (i + 1) now i (getD now (from + i) 0) (omega arith)
             ∙ sym (drop-drop 1 i now) ∙ ap (drop 1) (so-far .kept) ∙ drop-drop 1 i bytes;
       }
+
+-- all of them: they stand in the place of the first
+pub all-moved : (bytes : List ℕ) (from i : ℕ) (now : List ℕ) → Moved bytes from i now → from + i ≤ length bytes → now ≡ overwrite bytes 0 (take i (drop from bytes))
+all-moved bytes from i now done inside =
+    let size : i ≡ 0 + length (take i (drop from bytes)) = omega (arith, length-take-le i (drop from bytes) (simp length-drop (omega arith))) in
+    sym (take-append-drop i now)
+    ∙ (λ k. done .moved k ++ done .kept k)
+    ∙ ap (λ (n : ℕ). take i (drop from bytes) ++ drop n bytes) size
+
+-- nothing put there changes nothing
+overwrite-none : (bytes : List ℕ) → bytes ≡ overwrite bytes 0 []
+overwrite-none bytes = refl
 
 -- what is left of some bytes is their end
 pub record Ends (bytes rest : List ℕ) : Type 0 where
@@ -157,20 +170,20 @@ module _
     pub left-within : {size : ℕ} → answer ≡ Left size → size ≤ length filled
     left-within e = omega (arith, size-told e, ap length front, rest-within start end window rest rest-ends)
 
-    pub stopped : answer ≡ Wrong → CountsWindow boards (windowPart start end window) counts answer after window
+    pub stopped : answer ≡ Wrong → CountsWindow boards start end window counts answer after window
     stopped e =
         let nothing = left-none (read boards (windowPart start end window)) (sym (counted-part .answered) ∙ e) in
-        record { counts = counted-part; kept = rw nothing }
+        record { counts = counted-part; kept = overwrite-none window ∙ ap (overwrite window 0) (sym nothing) }
 
     pub kept-left :
-        {size : ℕ} {moved : List ℕ} → answer ≡ Left size → take size moved ≡ take size (drop (length filled - size) window)
-        → CountsWindow boards (windowPart start end window) counts (Left size) after moved
+        {size : ℕ} {moved : List ℕ} → answer ≡ Left size → moved ≡ overwrite window 0 (take size (drop (length filled - size) window))
+        → CountsWindow boards start end window counts (Left size) after moved
     kept-left {size} {moved} e h =
         let size-is = size-told e in
         record {
           counts = rw e at counted-part;
           kept =
-              ap (λ (n : ℕ). take n moved) size-is ∙ h
-              ∙ (λ i. take (sym size-is i) (drop (length (front i) - sym size-is i) window))
-              ∙ rest-stands start end window rest rest-ends;
+              h
+              ∙ ap (overwrite window 0)
+              ((λ i. take (sym size-is i) (drop (length (front i) - sym size-is i) window)) ∙ rest-stands start end window rest rest-ends);
         }

@@ -5,6 +5,7 @@ use mathlib.Core.List.{List, [], _∷_}
 use mathlib.Core.Path.{_≡_}
 use lib.Dec.{ltb, eqb}
 use lib.ListN.{length, take, drop, getD, set}
+use Rattle.octets.specs.Octets.{overwrite}
 use Rattle.captures.specs.Form.{Record}
 use Rattle.captures.specs.Reading.{Reading, left, wrong, item, read, recordsOf}
 use Rattle.counts.specs.Judging.{judged}
@@ -71,7 +72,7 @@ pub record Counts (boards : ℕ) (bytes before : List ℕ) (answer : Ending) (af
 abbrev pub windowPart : ℕ → ℕ → List ℕ → List ℕ
 windowPart start end window = drop start (take end window)
 
--- the contract of `count_window`: the records of a part of the window are counted, and the bytes that are left stand at its start
-pub record CountsWindow (boards : ℕ) (part before : List ℕ) (answer : Ending) (after window : List ℕ) : Type 0 where
-  pub counts : Counts boards part before answer after
-  pub kept : take (length (leftOf (read boards part))) window ≡ leftOf (read boards part)
+-- the contract of `count_window`: the records of a part of the window are counted, and the bytes that are left put at its start
+pub record CountsWindow (boards start end : ℕ) (window before : List ℕ) (answer : Ending) (after moved : List ℕ) : Type 0 where
+  pub counts : Counts boards (windowPart start end window) before answer after
+  pub kept : moved ≡ overwrite window 0 (leftOf (read boards (windowPart start end window)))

@@ -3,12 +3,13 @@ use super::counting::Ending;
 ghost use mathlib.Core.Path.{_≡_};
 ghost use Prim.Native.Nat.{_+_, _≤_};
 ghost use lib.ListN.{length, take, drop};
-ghost use Rattle.counts.specs.Counting.{windowPart, CountsWindow};
+ghost use Rattle.octets.specs.Octets.{overwrite};
+ghost use Rattle.counts.specs.Counting.{CountsWindow};
 
 // Moves `count` bytes from a place to the start.
 fn move_to_start(bytes: &mut [u8], from: usize, count: usize)
     requires { ⌜ from + count ≤ length (now bytes) ⌝ }
-    ensures { λ _. ⌜ take count (now (bytes .exit)) ≡ take count (drop from (now (bytes .entry))) ⌝ }
+    ensures { λ _. ⌜ now (bytes .exit) ≡ overwrite (now (bytes .entry)) 0 (take count (drop from (now (bytes .entry)))) ⌝ }
 {
     let mut i: usize = 0;
     while i < count {
@@ -26,7 +27,7 @@ pub fn count_window(
     end: usize,
     boards: u16,
 ) -> Ending
-    ensures { λ r. ⌜ CountsWindow boards (windowPart start end (now (window .entry))) (now (counts .entry)) r (now (counts .exit)) (now (window .exit)) ⌝ }
+    ensures { λ r. ⌜ CountsWindow boards start end (now (window .entry)) (now (counts .entry)) r (now (counts .exit)) (now (window .exit)) ⌝ }
 {
     let filled = octets::first_bytes(window, end);
     let until = filled.len();

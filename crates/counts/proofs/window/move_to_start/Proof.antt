@@ -3,7 +3,7 @@ use Prim.Native.Nat.{_-_, _≤_}
 use native.Mathlib.Omega.{arith}
 use mathlib.Core.Path.{_≡_, refl}
 use denote.Ref.{now}
-use Rattle.counts.proofs.Moving.{Moved, move-one}
+use Rattle.counts.proofs.Moving.{Moved, move-one, all-moved}
 use borrow.Author.Needs.{needs}
 use Rattle.counts.proofs.window.move_to_start.Statement.{statement}
 use Rattle.counts.proofs.window.move_to_start.Tie as tie
@@ -45,7 +45,8 @@ returns : tie.Need-returns Inv-loop μ-loop
 returns c =
     let v = c .before .loop in
     let all : v .i ≡ c .before .before .args .count = omega arith in
-    rw (← all) (v .inv .1 .moved)
+    let start = c .before .before .args in
+    rw (← all) (all-moved (now (start .bytes)) (start .from) (v .i) (v .bytes) (v .inv .1) (omega (arith, c .before .before .pre)))
 
 pub move-to-start-spec : {M : Type 1} → statement M
 move-to-start-spec =
