@@ -23,6 +23,9 @@ pub(crate) const COUNT_AT: usize = 5;
 
 pub(crate) const IDS_AT: usize = COUNT_AT + INDEX_SIZE;
 
+// The most bytes that stand before the records.
+pub const LONGEST_HEAD: usize = IDS_AT + framing::ID_SIZE * BOARD_LIMIT;
+
 // Where the parts of a record stand.
 pub(crate) const DIRECTION_AT: usize = INDEX_SIZE;
 

@@ -1,12 +1,10 @@
 -- Counting a reading's records one after another.
-use Prim.Native.Nat.{ℕ, _-_, _≤_, _<_}
+use Prim.Native.Nat.{ℕ, _-_, _<_}
 use native.Mathlib.Nat.{sub-zero}
 use native.Mathlib.Omega.{arith}
-use mathlib.Core.Bool.{true, _&&_}
-use mathlib.Core.List.{List, [], _∷_}
+use mathlib.Core.List.{List, []}
 use mathlib.Core.Path.{_≡_, refl, sym, ap, _∙_}
 use borrow.Author.Tests.{le-leb}
-use lib.Dec.{leb}
 use lib.ListN.{length, take, drop, getD, length-drop, length-set}
 use lib.Seq.{take-all}
 use Rattle.block.specs.Reading.{partOf}
@@ -18,7 +16,6 @@ use Rattle.captures.specs.Statements.{readAfter}
 use Rattle.captures.proofs.Next.{Placed, placed}
 use Rattle.captures.proofs.Records.{read-step}
 use Rattle.counts.specs.Counting.{place, more, counted, countedOne, endOf, Counts}
-use Rattle.counts.specs.declared.counting.Ending.{Ending}
 use Rattle.counts.specs.declared.counting.Ending.the-variants.{Left, Wrong}
 
 -- counts and ending of what is left are those of the whole

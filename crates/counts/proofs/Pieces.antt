@@ -1,12 +1,10 @@
 -- A capture may be counted in pieces.
 use Prim.Native.Nat.{ℕ, _≤_}
-use mathlib.Core.Bool.{Bool, true, false, cond}
 use mathlib.Core.List.{List, [], _∷_, _++_, append-assoc, append-nil}
-use mathlib.Core.Path.{_≡_, refl, sym, ap, _∙_, subst}
-use lib.Dec.{eqb}
+use mathlib.Core.Path.{_≡_, refl, sym, ap, _∙_}
 use lib.ListN.{length, drop}
 use lib.Seq.{drop-append-le}
-use Rattle.captures.specs.Reading.{Reading, left, wrong, item, reading, read, recordsOf, readIn, recordsIn, recordsAs, openedOf}
+use Rattle.captures.specs.Reading.{Reading, left, wrong, item, reading, read, recordsOf, recordsIn, openedOf}
 use Rattle.captures.specs.Statements.{resumed, joined}
 use Rattle.captures.specs.declared.reading.Opened.{Opened}
 use Rattle.captures.specs.declared.reading.Opened.the-variants as opened
@@ -14,7 +12,7 @@ use Rattle.captures.proofs.Records.{read-resumed}
 use Rattle.captures.proofs.Pieces.{opened-front, inside}
 use Rattle.counts.specs.Counting.{countLimit, counted, endOf, leftOf, endingNumber}
 use Rattle.counts.specs.Text.{textOf, summaryOf}
-use Rattle.counts.specs.Statements.{Progress, isWrong, start, after, taken, allTaken, PiecesCount, progressNumber, progressText, textAs, headWithin, PiecesSummed}
+use Rattle.counts.specs.Statements.{Progress, isWrong, after, taken, allTaken, PiecesCount, progressNumber, progressText, textAs, headWithin, PiecesSummed}
 use Rattle.counts.proofs.Summaries.{none-yet, accepted-as, records-same, summary-refused, summary-counted}
 
 -- reading on from what is left

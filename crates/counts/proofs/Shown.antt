@@ -3,17 +3,17 @@ use Prim.Native.Nat.{ℕ, _+_, _-_, _<_, _≤_}
 use native.Mathlib.Omega.{arith}
 use mathlib.Core.Bool.{Bool, true, false, cond}
 use mathlib.Core.List.{List, _++_}
-use mathlib.Core.Path.{_≡_, refl, sym, ap, _∙_}
+use mathlib.Core.Path.{_≡_, refl, ap}
 use borrow.Author.Tests.{leb-true, leb-false, le-leb, lt-leb}
 use lib.Dec.{leb}
 use lib.ListN.{length, length-append}
-use Rattle.octets.specs.Octets.{overwrite, fits, Overwrites}
+use Rattle.octets.specs.Octets.{Overwrites}
 use Rattle.octets.proofs.Overwriting.{overwrites-after}
-use Rattle.counts.specs.Text.{roomAfter, WritesLines, Shows}
+use Rattle.tool.specs.Listing.{Shows}
+use Rattle.tool.specs.declared.listing.Listed.the-variants.{Length, NoRoom}
+use Rattle.counts.specs.Text.{roomAfter, WritesLines}
 use Rattle.counts.specs.declared.text.Room.{Room}
 use Rattle.counts.specs.declared.text.Room.the-variants as room
-use Rattle.counts.specs.declared.text.Shown.{Shown}
-use Rattle.counts.specs.declared.text.Shown.the-variants.{Length, NoRoom}
 
 left-by : (t : Bool) {answer : Room} (rest : ℕ) {left : ℕ} → answer ≡ cond t (room.Left rest) room.NoRoom → answer ≡ room.Left left → (t ≡ true) × (left ≡ rest)
 left-by true rest e h = (refl, cc)
@@ -54,13 +54,3 @@ module _ (buffer first second : List ℕ) where
             rw in-room
             (overwrites-after buffer 0 first last (omega (arith, lines .ends)) (lines .stored) (omega (arith, lines .ends)));
       }
-
-shown-by : (fit : Bool) (size : ℕ) {answer : Shown} {told : ℕ} → answer ≡ cond fit (Length size) NoRoom → answer ≡ Length told → (fit ≡ true) × (told ≡ size)
-shown-by true size e h = (refl, cc)
-shown-by false size e h = ((cc), (cc))
-
--- what is shown ends within its buffer
-pub shown-size : (text buffer : List ℕ) {answer : Shown} {after : List ℕ} {told : ℕ} → Shows text buffer answer after → answer ≡ Length told → told ≤ length buffer
-shown-size text buffer w h =
-    let by = shown-by (fits buffer 0 text) (length text) (w .answered) h in
-    omega (arith, by .1, leb-true (0 + length text) (length buffer) (by .0))

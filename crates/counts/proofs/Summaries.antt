@@ -7,8 +7,8 @@ use mathlib.Core.Option.{Option, none, some, orElse}
 use mathlib.Core.Path.{_≡_, refl, sym, ap, _∙_}
 use borrow.Author.Tests.{ne-eqb}
 use lib.Dec.{ltb, eqb}
-use lib.ListN.{length, drop, getD, length-drop, length-replicate}
-use Rattle.framing.specs.Refusal.{Refusal, refusal, firstRefusal}
+use lib.ListN.{length, drop, length-drop, length-replicate}
+use Rattle.framing.specs.Refusal.{refusal, firstRefusal}
 use Rattle.framing.proofs.Refusals.{first-of-joined, refused-then, passed-then}
 use Rattle.captures.specs.Form.{indexSize, packetAt, Record, boardLimit}
 use Rattle.captures.specs.Reading.{boardCount, recordsAt, sizeIn, recordIn, inRange, headRefusals, headRefusal, Reading, left, wrong, item, reading, read, readIn, recordsOf, wrongRecord, recordsAs, recordsIn, captureRefusals, captureRefusal, openedAs, openedOf}

@@ -1,5 +1,5 @@
 -- How long the text of the counts of all boards can be.
-use Prim.Native.Nat.{ℕ, zero, suc, _+_, _*_, _/_, _%_, _^_, _<_, _≤_}
+use Prim.Native.Nat.{ℕ, zero, suc, _+_, _*_, _/_, _%_, _<_, _≤_}
 use native.Mathlib.Omega.{arith}
 use mathlib.Core.Bool.{Bool, true, false, cond}
 use mathlib.Core.List.{List, [], _∷_, _++_}
@@ -8,9 +8,9 @@ use borrow.Author.Tests.{ltb-true, ltb-false}
 use lib.Dec.{ltb, eqb}
 use lib.ListN.{length, getD, length-append}
 use Rattle.captures.specs.Form.{boardLimit}
-use Rattle.tool.specs.Listing.{refusedLine, lineFeed}
+use Rattle.tool.specs.Listing.{lineFeed}
 use Rattle.counts.specs.Counting.{numbersPerBoard}
-use Rattle.counts.specs.Text.{digit, decimalIn, decimal, comma, each, pairLine, lineAt, linesOf, lastLine}
+use Rattle.counts.specs.Text.{decimal, comma, each, lineAt, linesOf, lastLine}
 use Rattle.counts.specs.Statements.{TextsFit}
 use Rattle.counts.proofs.Decimals.{one-digit, more-digits, decimal-short}
 

@@ -6,7 +6,7 @@ use mathlib.Core.Option.{Option, none, some}
 use mathlib.Core.Path.{_≡_}
 use lib.Dec.{leb, ltb, eqb}
 use lib.ListN.{length, drop, getD}
-use Rattle.octets.specs.Octets.{overwrite, fits}
+use Rattle.octets.specs.Octets.{overwrite}
 use Rattle.captures.specs.Form.{Record, boardLimit}
 use Rattle.captures.specs.Reading.{recordsIn, captureRefusal}
 use Rattle.tool.specs.Listing.{lineFeed, refusedLine}
@@ -14,8 +14,6 @@ use Rattle.counts.specs.Counting.{numbersPerBoard, countOf}
 use Rattle.counts.specs.declared.text.PairLine.{PairLine}
 use Rattle.counts.specs.declared.text.Room.{Room}
 use Rattle.counts.specs.declared.text.Room.the-variants as room
-use Rattle.counts.specs.declared.text.Shown.{Shown}
-use Rattle.counts.specs.declared.text.Shown.the-variants.{Length, NoRoom}
 
 abbrev pub digit : ℕ → ℕ
 digit n = 0x30 + n
@@ -76,11 +74,6 @@ textOf counts refusal = linesOf counts ++ lastLine refusal
 -- a line for each count, of up to 27 bytes, and that of a refusal
 abbrev pub longestText : ℕ
 longestText = boardLimit * numbersPerBoard * 27 + 11
-
--- a text shown in the first bytes of a buffer: its length, or that it does not fit and the buffer stays as it was
-pub record Shows (text buffer : List ℕ) (answer : Shown) (after : List ℕ) : Type 0 where
-  pub answered : answer ≡ cond (fits buffer 0 text) (Length (length text)) NoRoom
-  pub held : after ≡ cond (fits buffer 0 text) (overwrite buffer 0 text) buffer
 
 -- three numbers, and a byte after each
 abbrev pub longestLine : ℕ

@@ -9,7 +9,7 @@ ghost use Rattle.framing.specs.Packet.{frameOf};
 ghost use Rattle.framing.specs.Refusal.{checked, firstRefusal};
 ghost use Rattle.framing.specs.Statements.{Stands};
 ghost use Rattle.block.specs.Request.{noFunction, noCommands};
-ghost use Rattle.counts.specs.Judging.{requestRefusals, anyRequestRefusal, judgedResponse, judgedRequest, judged};
+ghost use Rattle.counts.specs.Judging.{requestRefusals, judgedResponse, judgedRequest, judged};
 
 fn judge_response(packet: &[u8]) -> u8
     ensures { λ r. ⌜ r ≡ judgedResponse (now (packet .entry)) ⌝ }

@@ -1,20 +1,13 @@
 // Writes counts as text: a line for each board and number that occurs.
 use captures::reading::Opened;
 use tool::listing::Line;
+use tool::listing::Listed;
 ghost use mathlib.Core.List.{_∷_, [], _++_};
 ghost use mathlib.Core.Path.{_≡_};
 ghost use Prim.Native.Nat.{_≤_, _<_};
 ghost use lib.ListN.{length};
-ghost use Rattle.tool.specs.Listing.{lineOf};
-ghost use Rattle.counts.specs.Counting.{numbersPerBoard};
-ghost use Rattle.counts.specs.Text.{digit, decimal, pairLine, pairAt, linesOf, lastLine, textOf, summaryOf, longestLine, Before, Holds, roomAfter, WritesLines, Shows};
-
-pub enum Shown {
-    // The text's length.
-    Length(usize),
-    // The text does not fit the buffer.
-    NoRoom,
-}
+ghost use Rattle.tool.specs.Listing.{lineOf, Shows};
+ghost use Rattle.counts.specs.Text.{digit, decimal, pairLine, pairAt, linesOf, lastLine, textOf, summaryOf, Before, Holds, roomAfter, WritesLines};
 
 // Room for the text of the counts of all boards: lines of up to 27 bytes, and that of a refusal.
 pub const LONGEST_TEXT: usize = captures::BOARD_LIMIT * super::counting::NUMBERS * 27 + 11;
@@ -154,25 +147,25 @@ fn last_line(refusal: u8) -> Line
 }
 
 // Writes counts, and the line of a refusal where its number is not 0, into the first bytes of `text`; the rest stays.
-pub fn write(text: &mut [u8], counts: &[u64], refusal: u8) -> Shown
+pub fn write(text: &mut [u8], counts: &[u64], refusal: u8) -> Listed
     ensures { λ r. ⌜ Shows (textOf (now (counts .entry)) refusal) (now (text .entry)) r (now (text .exit)) ⌝ }
 {
     let Room::Left(left) = room_after(text.len(), counts) else {
-        return Shown::NoRoom;
+        return Listed::NoRoom;
     };
     let line = last_line(refusal);
     let size = line.size;
     if left < size {
-        return Shown::NoRoom;
+        return Listed::NoRoom;
     }
     let at = write_lines(text, counts);
     let bytes = line.bytes;
     octets::overwrite(text, at, &bytes[..size]);
-    Shown::Length(at + size)
+    Listed::Length(at + size)
 }
 
 // Writes the summary of a capture into the first bytes of `text`; the rest stays.
-pub fn summary(text: &mut [u8], capture: &[u8]) -> Shown
+pub fn summary(text: &mut [u8], capture: &[u8]) -> Listed
     ensures { λ r. ⌜ Shows (summaryOf (now (capture .entry))) (now (text .entry)) r (now (text .exit)) ⌝ }
 {
     let mut counts = [0u64; captures::BOARD_LIMIT * super::counting::NUMBERS];

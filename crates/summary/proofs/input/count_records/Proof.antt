@@ -1,0 +1,115 @@
+-- `summary::input::count_records` meets its contract.
+use mathlib.Core.Path.{_≡_}
+use lib.ListN.{length}
+use borrow.Author.Needs.{needs}
+use Rattle.summary.proofs.input.count_records.Statement.{statement}
+use Rattle.summary.proofs.input.count_records.Tie as tie
+
+abbrev Inv-loop : tie.InvT-loop
+Inv-loop pairs₀ window₀ records filled boards start₀ end₀ turns₀ pairs window start end turns = (length pairs ≡ length pairs₀) × (length window ≡ length window₀)
+
+abbrev μ-loop : tie.MeasureT-loop
+μ-loop pairs₀ window₀ records filled boards start₀ end₀ turns₀ pairs window start end turns = turns
+
+loop-holds : tie.Need-loop-holds Inv-loop μ-loop
+loop-holds c = search needs
+
+count-window-requires : tie.Need-count-window-requires Inv-loop μ-loop
+count-window-requires c κs = search needs
+
+enum-known-ending : tie.Need-enum-known-ending Inv-loop μ-loop
+enum-known-ending c = search needs
+
+enum-told : tie.Need-enum-told Inv-loop μ-loop
+enum-told c = search needs
+
+ending-number-requires : tie.Need-ending-number-requires Inv-loop μ-loop
+ending-number-requires c κs = search needs
+
+same-length : tie.Need-same-length Inv-loop μ-loop
+same-length c = search needs
+
+same-length-2 : tie.Need-same-length-2 Inv-loop μ-loop
+same-length-2 c = search needs
+
+returns : tie.Need-returns Inv-loop μ-loop
+returns c = search needs
+
+fill-requires : tie.Need-fill-requires Inv-loop μ-loop
+fill-requires c κs = search needs
+
+enum-known-until : tie.Need-enum-known-until Inv-loop μ-loop
+enum-known-until c = search needs
+
+enum-told-2 : tie.Need-enum-told-2 Inv-loop μ-loop
+enum-told-2 c = search needs
+
+same-length-3 : tie.Need-same-length-3 Inv-loop μ-loop
+same-length-3 c = search needs
+
+same-length-4 : tie.Need-same-length-4 Inv-loop μ-loop
+same-length-4 c = search needs
+
+returns-2 : tie.Need-returns-2 Inv-loop μ-loop
+returns-2 c = search needs
+
+ending-number-requires-2 : tie.Need-ending-number-requires-2 Inv-loop μ-loop
+ending-number-requires-2 c κs = search needs
+
+same-length-5 : tie.Need-same-length-5 Inv-loop μ-loop
+same-length-5 c = search needs
+
+same-length-6 : tie.Need-same-length-6 Inv-loop μ-loop
+same-length-6 c = search needs
+
+returns-3 : tie.Need-returns-3 Inv-loop μ-loop
+returns-3 c = search needs
+
+sub-turns : tie.Need-sub-turns Inv-loop μ-loop
+sub-turns c = search needs
+
+loop-less : tie.Need-loop-less Inv-loop μ-loop
+loop-less c = search needs
+
+loop-again : tie.Need-loop-again Inv-loop μ-loop
+loop-again c = search needs
+
+same-length-7 : tie.Need-same-length-7 Inv-loop μ-loop
+same-length-7 c = search needs
+
+same-length-8 : tie.Need-same-length-8 Inv-loop μ-loop
+same-length-8 c = search needs
+
+returns-4 : tie.Need-returns-4 Inv-loop μ-loop
+returns-4 c = search needs
+
+pub count-records-spec : {M : Type 1} → statement M
+count-records-spec =
+    tie.close
+    (tie.spec
+    Inv-loop
+    μ-loop
+    loop-holds
+    count-window-requires
+    enum-known-ending
+    enum-told
+    ending-number-requires
+    same-length
+    same-length-2
+    returns
+    fill-requires
+    enum-known-until
+    enum-told-2
+    same-length-3
+    same-length-4
+    returns-2
+    ending-number-requires-2
+    same-length-5
+    same-length-6
+    returns-3
+    sub-turns
+    loop-less
+    loop-again
+    same-length-7
+    same-length-8
+    returns-4)
