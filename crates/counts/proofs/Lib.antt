@@ -11,3 +11,4 @@ pub mod Pieces
 pub mod ReadDecimals
 pub mod Moving
 pub mod TextSize
+pub mod Windows

@@ -93,7 +93,7 @@ left-ends boards (b ∷ s) zero =
     by-tests false true false after h = ends-more b h
 
 -- how many bytes are left
-left-size : (r : Reading) {size : ℕ} → endOf r ≡ Left size → length (leftOf r) ≡ size
+pub left-size : (r : Reading) {size : ℕ} → endOf r ≡ Left size → length (leftOf r) ≡ size
 unfolding endOf leftOf
 left-size (left bytes) e = cc
 left-size wrong e = cc

@@ -40,7 +40,7 @@ unfolding reading recordsOf leftOf isWrong counted
 pieces-count boards counts pieces = all-from boards counts [] pieces
 
 -- the text of a reading, by its ending
-number-after : (counts : List ℕ) (r : Reading) → progressNumber (after counts r) ≡ endingNumber (endOf r)
+pub number-after : (counts : List ℕ) (r : Reading) → progressNumber (after counts r) ≡ endingNumber (endOf r)
 unfolding endOf leftOf isWrong
 number-after counts (left bytes) = refl
 number-after counts wrong = refl

@@ -4,15 +4,17 @@ use mathlib.Core.Bool.{Bool, true, false, cond}
 use mathlib.Core.List.{List, [], _∷_, _++_}
 use mathlib.Core.Path.{_≡_}
 use lib.Dec.{eqb}
-use lib.ListN.{length, drop, getD, replicate}
-use Rattle.captures.specs.Form.{Record, boardLimit}
+use lib.ListN.{length, take, drop, getD, replicate}
+use Rattle.captures.specs.Form.{Record, boardLimit, packetAt}
 use Rattle.captures.specs.Reading.{Reading, left, wrong, item, read, recordsOf, recordsIn, openedOf}
 use Rattle.captures.specs.Statements.{joined, longestHead}
 use Rattle.captures.specs.declared.reading.Opened.{Opened}
 use Rattle.captures.specs.declared.reading.Opened.the-variants as opened
 use Rattle.tool.specs.Listing.{refusedLine}
 use Rattle.counts.specs.Judging.{judged}
-use Rattle.counts.specs.Counting.{numbersPerBoard, placeOf, countLimit, countOf, counted, leftOf}
+use Rattle.counts.specs.Counting.{numbersPerBoard, placeOf, countLimit, countOf, counted, leftOf, endingNumber, CountsWindow}
+use Rattle.counts.specs.declared.counting.Ending.{Ending}
+use Rattle.counts.specs.declared.counting.Ending.the-variants.{Left, Wrong}
 use Rattle.counts.specs.Text.{decimal, textOf, summaryOf, longestText}
 
 -- each number has room for its count: it is 0 to 10
@@ -95,3 +97,27 @@ abbrev pub PiecesSummed : Type 0
 PiecesSummed =
     (front : List ℕ) (pieces : List (List ℕ)) → headWithin front pieces → length (recordsIn (front ++ joined pieces)) ≤ countLimit
     → textAs (openedOf front) front pieces ≡ summaryOf (front ++ joined pieces)
+
+-- The turns of a window after the first: what comes next is read behind the bytes that are left and counted with them. Each call of
+-- `count_window` is known by its contract alone: counts, answer and window as it left them, then the pieces still to come, and how it ends.
+pub data Turns (boards : ℕ) : List ℕ → Ending → List ℕ → List (List ℕ) → Ending → List ℕ → Type 0 where
+  ended : {counts window : List ℕ} {answer : Ending} → Turns boards counts answer window [] answer counts
+  stopped : {counts window : List ℕ} {pieces : List (List ℕ)} → Turns boards counts Wrong window pieces Wrong counts
+  turned :
+      {counts window counts′ window′ final : List ℕ} {answer ending : Ending} {pieces : List (List ℕ)} (size : ℕ) (piece filled : List ℕ)
+      → take (size + length piece) filled ≡ take size window ++ piece
+      → CountsWindow boards 0 (size + length piece) filled counts answer counts′ window′ → Turns boards counts′ answer window′ pieces ending final
+      → Turns boards counts (Left size) window (piece ∷ pieces) ending final
+
+-- a window that is read into in turns comes to the summary of the whole capture
+abbrev pub WindowsSum : Type 0
+WindowsSum =
+    (boards ids records : ℕ) (front window counts after moved final : List ℕ) (pieces : List (List ℕ)) (answer ending : Ending)
+    → openedOf front ≡ opened.Capture boards ids records → headWithin front pieces → length (recordsIn (front ++ joined pieces)) ≤ countLimit
+    → take (length front) window ≡ front → counts ≡ zeros (boardLimit * numbersPerBoard)
+    → CountsWindow boards records (length front) window counts answer after moved → Turns boards after answer moved pieces ending final
+    → textOf final (endingNumber ending) ≡ summaryOf (front ++ joined pieces)
+
+-- what is left is shorter than the longest record, so that a longer window has room behind it
+abbrev pub LeftShort : Type 0
+LeftShort = (boards : ℕ) (bytes : List ℕ) → length (leftOf (read boards bytes)) < packetAt + 256

@@ -30,13 +30,26 @@ same-length-2 : tie.Need-same-length-2
 same-length-2 c = search needs
 
 returns : tie.Need-returns
-returns c = stopped (c .before .before .before .before .before .before .before .before .before .before .before .args .boards) (c .before .before .before .before .before .before .before .before .before .before .before .args .start) (c .before .before .before .before .before .before .before .before .before .before .before .args .end) (now (c .before .before .before .before .before .before .before .before .before .before .before .args .window)) (c .before .before .before .before .before .before .before .first-bytes .ensures) (c .before .before .before .before .before .bytes-after .ensures) (c .before .before .before .before .count .ensures) (c .enum-told .given .1)
+returns c =
+    let done = c .before .before .before .before in
+    let filled = done .before .before .before in
+    let given = filled .before .before .before .before .args in
+    stopped (given .boards) (given .start) (given .end) (now (given .window)) (filled .first-bytes .ensures) (done .before .bytes-after .ensures) (done .count .ensures) (c .enum-told .given .1)
 
 sub-move-to-start : tie.Need-sub-move-to-start
-sub-move-to-start c = left-within (c .before .before .before .before .before .before .before .before .before .before .before .before .before .args .boards) (c .before .before .before .before .before .before .before .before .before .before .before .before .before .args .start) (c .before .before .before .before .before .before .before .before .before .before .before .before .before .args .end) (now (c .before .before .before .before .before .before .before .before .before .before .before .before .before .args .window)) (c .before .before .before .before .before .before .before .before .before .first-bytes .ensures) (c .before .before .before .before .before .before .before .bytes-after .ensures) (c .before .before .before .before .before .before .count .ensures) (c .before .before .ending .given .1)
+sub-move-to-start c =
+    let done = c .before .before .before .before .before .before in
+    let filled = done .before .before .before in
+    let given = filled .before .before .before .before .args in
+    left-within (given .boards) (given .start) (given .end) (now (given .window)) (filled .first-bytes .ensures) (done .before .bytes-after .ensures) (done .count .ensures) (c .before .before .ending .given .1)
 
 move-to-start-requires : tie.Need-move-to-start-requires
-move-to-start-requires c κs = omega (arith, left-within (c .before .before .before .before .before .before .before .before .before .before .before .before .before .args .boards) (c .before .before .before .before .before .before .before .before .before .before .before .before .before .args .start) (c .before .before .before .before .before .before .before .before .before .before .before .before .before .args .end) (now (c .before .before .before .before .before .before .before .before .before .before .before .before .before .args .window)) (c .before .before .before .before .before .before .before .before .before .first-bytes .ensures) (c .before .before .before .before .before .before .before .bytes-after .ensures) (c .before .before .before .before .before .before .count .ensures) (c .before .before .ending .given .1), ap length (c .before .before .before .before .before .before .before .before .before .first-bytes .ensures), length-take (c .before .before .before .before .before .before .before .before .before .before .before .before .before .args .end) (now (c .before .before .before .before .before .before .before .before .before .before .before .before .before .args .window)))
+move-to-start-requires c κs =
+    let done = c .before .before .before .before .before .before in
+    let filled = done .before .before .before in
+    let given = filled .before .before .before .before .args in
+    let within = left-within (given .boards) (given .start) (given .end) (now (given .window)) (filled .first-bytes .ensures) (done .before .bytes-after .ensures) (done .count .ensures) (c .before .before .ending .given .1) in
+    omega (arith, ap length (filled .first-bytes .ensures), length-take (given .end) (now (given .window)))
 
 same-length-3 : tie.Need-same-length-3
 same-length-3 c = search needs
@@ -45,7 +58,11 @@ same-length-4 : tie.Need-same-length-4
 same-length-4 c = search needs
 
 returns-2 : tie.Need-returns-2
-returns-2 c = kept-left (c .before .before .before .before .before .before .before .before .before .before .before .before .before .before .before .before .args .boards) (c .before .before .before .before .before .before .before .before .before .before .before .before .before .before .before .before .args .start) (c .before .before .before .before .before .before .before .before .before .before .before .before .before .before .before .before .args .end) (now (c .before .before .before .before .before .before .before .before .before .before .before .before .before .before .before .before .args .window)) (c .before .before .before .before .before .before .before .before .before .before .before .before .first-bytes .ensures) (c .before .before .before .before .before .before .before .before .before .before .bytes-after .ensures) (c .before .before .before .before .before .before .before .before .before .count .ensures) (c .before .before .before .before .before .ending .given .1) (c .before .before .move-to-start .ensures)
+returns-2 c =
+    let done = c .before .before .before .before .before .before .before .before .before in
+    let filled = done .before .before .before in
+    let given = filled .before .before .before .before .args in
+    kept-left (given .boards) (given .start) (given .end) (now (given .window)) (filled .first-bytes .ensures) (done .before .bytes-after .ensures) (done .count .ensures) (c .before .before .before .before .before .ending .given .1) (c .before .before .move-to-start .ensures)
 
 pub count-window-spec : {M : Type 1} → statement M
 count-window-spec =

@@ -1,0 +1,124 @@
+-- A window that is read into in turns: what it comes to, and that it keeps room.
+use Prim.Native.Nat.{ℕ, zero, suc, _+_, _*_, _<_}
+use native.Mathlib.Omega.{arith}
+use mathlib.Core.Bool.{Bool, true, false, cond, not}
+use mathlib.Core.List.{List, [], _∷_, _++_}
+use mathlib.Core.Path.{_≡_, refl, sym, ap, _∙_}
+use borrow.Author.Tests.{ltb-true}
+use lib.Dec.{ltb}
+use lib.ListN.{length, take, drop}
+use lib.Seq.{take-at}
+use Rattle.captures.specs.Form.{indexSize, packetAt, boardLimit}
+use Rattle.captures.specs.Reading.{indexIn, directionIn, sizeIn, recordIn, inRange, Reading, left, wrong, item, reading, read, recordsOf}
+use Rattle.counts.specs.Counting.{numbersPerBoard, counted, endOf, leftOf, endingNumber, windowPart, CountsWindow}
+use Rattle.counts.specs.Text.{textOf}
+use Rattle.counts.specs.Statements.{zeros, Progress, isWrong, start, after, taken, allTaken, progressText, textAs, Turns, ended, stopped, turned, WindowsSum, LeftShort}
+use Rattle.counts.specs.declared.counting.Ending.{Ending}
+use Rattle.counts.specs.declared.counting.Ending.the-variants.{Left, Wrong}
+use Rattle.captures.proofs.Ranges.{ranges}
+use Rattle.counts.proofs.Moving.{left-size}
+use Rattle.counts.proofs.Pieces.{number-after, pieces-summed}
+
+goes-on : (r : Reading) {size : ℕ} → Left size ≡ endOf r → isWrong r ≡ false
+unfolding endOf isWrong
+goes-on (left bytes) e = refl
+goes-on wrong e = cc
+goes-on (item r rest) e = goes-on rest e
+
+is-wrong : (r : Reading) → Wrong ≡ endOf r → isWrong r ≡ true
+unfolding endOf isWrong
+is-wrong (left bytes) e = cc
+is-wrong wrong e = refl
+is-wrong (item r rest) e = is-wrong rest e
+
+-- after a field outside its range no piece is taken
+none-taken : (boards : ℕ) (so-far : Progress) (pieces : List (List ℕ)) → so-far .stopped ≡ true → allTaken boards so-far pieces ≡ so-far
+unfolding allTaken
+none-taken boards so-far [] e = refl
+none-taken boards so-far (piece ∷ pieces) e =
+    ap (λ (p : Progress). allTaken boards p pieces)
+    (ap (λ (t : Bool). cond t so-far (after (so-far .counts) (read boards (so-far .bytes ++ piece)))) e)
+    ∙ none-taken boards so-far pieces e
+
+-- counts, answer and window tell what was read
+record Tells (r : Reading) (before counts : List ℕ) (answer : Ending) (window : List ℕ) : Type 0 where
+  held : counts ≡ counted before (recordsOf r)
+  answered : answer ≡ endOf r
+  kept : take (length (leftOf r)) window ≡ leftOf r
+
+window-tells :
+    (boards start end : ℕ) (window : List ℕ) {part counts after moved : List ℕ} {answer : Ending} → windowPart start end window ≡ part
+    → CountsWindow boards start end window counts answer after moved → Tells (read boards part) counts after answer moved
+window-tells boards start end window {part} {counts} {after} {moved} {answer} e w =
+    let rest = leftOf (read boards (windowPart start end window)) in
+    let told : Tells (read boards (windowPart start end window)) counts after answer moved = record {
+      held = w .counts .held;
+      answered = w .counts .answered;
+      kept = ap (take (length rest)) (w .kept) ∙ take-at rest _ (length rest) refl;
+    } in
+    rw e at told
+
+text-told :
+    {r : Reading} {before counts window : List ℕ} {answer : Ending} → Tells r before counts answer window
+    → textOf counts (endingNumber answer) ≡ progressText (after before r)
+text-told {r} {before} told =
+    (λ i. textOf (told .held i) (endingNumber (told .answered i)))
+    ∙ ap (textOf (counted before (recordsOf r))) (sym (number-after before r))
+
+module _ (boards : ℕ) where
+  -- a piece behind what is left
+  taken-behind :
+      {r : Reading} {before counts window : List ℕ} {size : ℕ} (piece : List ℕ) → Tells r before counts (Left size) window
+      → taken boards (after before r) piece ≡ after counts (read boards (leftOf r ++ piece))
+  taken-behind {r} {before} piece told =
+      ap (λ (t : Bool). cond t (after before r) (after (counted before (recordsOf r)) (read boards (leftOf r ++ piece)))) (goes-on r (told .answered))
+      ∙ ap (λ (l : List ℕ). after l (read boards (leftOf r ++ piece))) (sym (told .held))
+
+  filled-with :
+      {r : Reading} {before counts window : List ℕ} {size : ℕ} (piece filled : List ℕ) → Tells r before counts (Left size) window
+      → take (size + length piece) filled ≡ take size window ++ piece → windowPart 0 (size + length piece) filled ≡ leftOf r ++ piece
+  filled-with {r} {window} piece filled told e =
+      e
+      ∙ ap (λ (l : List ℕ). l ++ piece)
+      (ap (λ (n : ℕ). take n window) (sym (left-size r (sym (told .answered)))) ∙ told .kept)
+
+  turns-told :
+      {counts window final : List ℕ} {answer ending : Ending} {pieces : List (List ℕ)} → Turns boards counts answer window pieces ending final
+      → (r : Reading) (before : List ℕ) → Tells r before counts answer window
+      → textOf final (endingNumber ending) ≡ progressText (allTaken boards (after before r) pieces)
+  unfolding allTaken
+  turns-told ended r before told = text-told told
+  turns-told (stopped {pieces}) r before told =
+      text-told told ∙ ap progressText (sym (none-taken boards (after before r) pieces (is-wrong r (told .answered))))
+  turns-told (turned {counts} {pieces} size piece filled e w later) r before told =
+      turns-told later (read boards (leftOf r ++ piece)) counts
+      (window-tells boards 0 (size + length piece) filled (filled-with piece filled told e) w)
+      ∙ ap (λ (p : Progress). progressText (allTaken boards p pieces)) (sym (taken-behind piece told))
+
+pub windows-sum : WindowsSum
+unfolding allTaken
+windows-sum boards ids records front window counts after moved final pieces answer ending head long few e none-yet w turns =
+    let first : Tells (read boards (drop records front)) counts after answer moved = window-tells boards records (length front) window (ap (drop records) e) w in
+    turns-told boards turns (read boards (drop records front)) (zeros (boardLimit * numbersPerBoard)) (rw none-yet at first)
+    ∙ ap (λ o. textAs o front pieces) (sym head)
+    ∙ pieces-summed front pieces long few
+
+left-short : (boards : ℕ) (bytes : List ℕ) (k : ℕ) → length (leftOf (reading boards bytes k)) < packetAt + 256
+unfolding reading leftOf
+left-short boards [] k = omega arith
+left-short boards (b ∷ s) (suc k) = left-short boards s k
+left-short boards (b ∷ s) zero =
+    by-tests (ltb (length (b ∷ s)) packetAt) refl (inRange boards (b ∷ s)) refl (ltb (length (b ∷ s)) (packetAt + sizeIn (b ∷ s))) refl
+    (reading boards s (indexSize + 6 + sizeIn (b ∷ s))) (left-short boards s (indexSize + 6 + sizeIn (b ∷ s)))
+  where
+    by-tests :
+        (head : Bool) → ltb (length (b ∷ s)) packetAt ≡ head → (right : Bool) → inRange boards (b ∷ s) ≡ right
+        → (cut : Bool) → ltb (length (b ∷ s)) (packetAt + sizeIn (b ∷ s)) ≡ cut → (rest : Reading) → length (leftOf rest) < packetAt + 256
+        → length (leftOf (cond head (left (b ∷ s)) (cond (not right) wrong (cond cut (left (b ∷ s)) (item (recordIn (b ∷ s)) rest))))) < packetAt + 256
+    by-tests true few right in-range cut short rest h = omega (arith, ltb-true (length (b ∷ s)) packetAt few)
+    by-tests false few false in-range cut short rest h = omega arith
+    by-tests false few true in-range true short rest h = omega (arith, ltb-true (length (b ∷ s)) (packetAt + sizeIn (b ∷ s)) short, ranges boards (indexIn (b ∷ s)) (directionIn (b ∷ s)) (sizeIn (b ∷ s)) in-range)
+    by-tests false few true in-range false short rest h = h
+
+pub left-shorter : LeftShort
+left-shorter boards bytes = left-short boards bytes 0
