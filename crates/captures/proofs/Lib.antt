@@ -1,5 +1,6 @@
 pub mod Fields
 pub mod Next
+pub mod Readings
 pub mod Records
 pub mod Lists
 pub mod Buffers

@@ -2,16 +2,16 @@
 use Prim.Native.Nat.{ℕ, zero, suc, _+_, _-_, _<_, _≤_}
 use native.Mathlib.Numerals.{add-one}
 use native.Mathlib.Omega.{arith}
-use mathlib.Core.Bool.{Bool, true, false, cond, not}
+use mathlib.Core.Bool.{Bool, true, false}
 use mathlib.Core.List.{List, [], _∷_, _++_}
 use mathlib.Core.Path.{_≡_, refl, sym, ap, _∙_}
 use borrow.Author.Tests.{leb-true, leb-false}
-use lib.Dec.{leb, ltb}
+use lib.Dec.{leb}
 use lib.ListN.{length, take, drop, getD, set, length-set, length-drop, drop-of-length-le, take-append-drop}
 use lib.Seq.{take-suc, take-suc-set, getD-drop, drop-set-lt, drop-drop, drop-length, length-take-le}
 use Rattle.octets.specs.Octets.{overwrite}
-use Rattle.captures.specs.Form.{indexSize, packetAt}
-use Rattle.captures.specs.Reading.{sizeIn, recordIn, inRange, Reading, left, wrong, item, reading, read}
+use Rattle.captures.specs.Reading.{Reading, left, wrong, item, read}
+use Rattle.captures.proofs.Readings.{of-readings}
 use Rattle.counts.specs.Counting.{endOf, leftOf, Counts, windowPart, CountsWindow}
 use Rattle.counts.specs.declared.counting.Ending.{Ending}
 use Rattle.counts.specs.declared.counting.Ending.the-variants.{Left, Wrong}
@@ -76,21 +76,19 @@ ends-more b {s} {rest} e =
     let next : length (b ∷ s) - length rest ≡ suc (length s - length rest) = omega (arith, e .within) in
     record { within = omega (arith, e .within); stands = ap (λ (n : ℕ). drop n (b ∷ s)) next ∙ e .stands }
 
-left-ends : (boards : ℕ) (bytes : List ℕ) (k : ℕ) → Ends bytes (leftOf (reading boards bytes k))
-unfolding reading leftOf
-left-ends boards [] k = ends-whole []
-left-ends boards (b ∷ s) (suc k) = ends-more b (left-ends boards s k)
-left-ends boards (b ∷ s) zero =
-    by-tests (ltb (length (b ∷ s)) packetAt) (inRange boards (b ∷ s)) (ltb (length (b ∷ s)) (packetAt + sizeIn (b ∷ s)))
-    (reading boards s (indexSize + 6 + sizeIn (b ∷ s))) (left-ends boards s (indexSize + 6 + sizeIn (b ∷ s)))
-  where
-    by-tests :
-        (head right cut : Bool) (after : Reading) → Ends s (leftOf after)
-        → Ends (b ∷ s) (leftOf (cond head (left (b ∷ s)) (cond (not right) wrong (cond cut (left (b ∷ s)) (item (recordIn (b ∷ s)) after)))))
-    by-tests true right cut after h = ends-whole (b ∷ s)
-    by-tests false false cut after h = ends-none (b ∷ s)
-    by-tests false true true after h = ends-whole (b ∷ s)
-    by-tests false true false after h = ends-more b h
+left-ends : (boards : ℕ) (bytes : List ℕ) → Ends bytes (leftOf (read boards bytes))
+unfolding leftOf
+left-ends boards bytes =
+    of-readings (λ (l : List ℕ) (r : Reading). Ends l (leftOf r))
+    (record {
+      none-left = ends-whole [];
+      passed-over = λ b s r h. ends-more b h;
+      head-cut = λ l few. ends-whole l;
+      out-of-range = λ l. ends-none l;
+      packet-cut = λ l right few. ends-whole l;
+      whole = λ b s r right h. ends-more b h;
+    })
+    bytes 0
 
 -- how many bytes are left
 pub left-size : (r : Reading) {size : ℕ} → endOf r ≡ Left size → length (leftOf r) ≡ size
@@ -162,7 +160,7 @@ module _
     counted-part = rw (cut ∙ ap (drop start) front) at done
 
     rest-ends : Ends (windowPart start end window) rest
-    rest-ends = left-ends boards (windowPart start end window) 0
+    rest-ends = left-ends boards (windowPart start end window)
 
     size-told : {size : ℕ} → answer ≡ Left size → length rest ≡ size
     size-told e = left-size (read boards (windowPart start end window)) (sym (counted-part .answered) ∙ e)

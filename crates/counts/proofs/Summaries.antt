@@ -1,17 +1,18 @@
 -- The text of a capture's counts is its summary.
-use Prim.Native.Nat.{ℕ, zero, suc, _+_, _*_, _/_, _%_, _<_, _≤_}
+use Prim.Native.Nat.{ℕ, _+_, _*_, _/_, _%_, _<_, _≤_}
 use native.Mathlib.Omega.{arith}
 use mathlib.Core.Bool.{Bool, true, false, cond, not}
 use mathlib.Core.List.{List, [], _∷_, _++_}
 use mathlib.Core.Option.{Option, none, some, orElse}
 use mathlib.Core.Path.{_≡_, refl, sym, ap, _∙_}
 use borrow.Author.Tests.{ne-eqb}
-use lib.Dec.{ltb, eqb}
+use lib.Dec.{eqb}
 use lib.ListN.{length, drop, length-drop, length-replicate}
 use Rattle.framing.specs.Refusal.{refusal, firstRefusal}
 use Rattle.framing.proofs.Refusals.{first-of-joined, refused-then, passed-then}
-use Rattle.captures.specs.Form.{indexSize, packetAt, Record, boardLimit}
-use Rattle.captures.specs.Reading.{boardCount, recordsAt, sizeIn, recordIn, inRange, headRefusals, headRefusal, Reading, left, wrong, item, reading, read, readIn, recordsOf, wrongRecord, recordsAs, recordsIn, captureRefusals, captureRefusal, openedAs, openedOf}
+use Rattle.captures.specs.Form.{Record, boardLimit}
+use Rattle.captures.specs.Reading.{boardCount, recordsAt, headRefusals, headRefusal, Reading, left, wrong, item, read, readIn, recordsOf, wrongRecord, recordsAs, recordsIn, captureRefusals, captureRefusal, openedAs, openedOf}
+use Rattle.captures.proofs.Readings.{of-readings}
 use Rattle.captures.specs.declared.reading.Opened.the-variants as opened
 use Rattle.tool.specs.Listing.{refusedLine}
 use Rattle.counts.specs.Counting.{numbersPerBoard, placeOf, countLimit, countOf, counted, endOf, endingNumber, Counts}
@@ -23,24 +24,19 @@ use Rattle.counts.proofs.Numbers.{head-some}
 use Rattle.counts.proofs.Pairs.{length-counted, pairs-counted}
 
 -- a record takes a byte at the least
-records-in : (boards : ℕ) (bytes : List ℕ) (k : ℕ) → length (recordsOf (reading boards bytes k)) ≤ length bytes
-unfolding reading recordsOf
-records-in boards [] k = omega arith
-records-in boards (b ∷ s) (suc k) = omega (arith, records-in boards s k)
-records-in boards (b ∷ s) zero =
-    by-tests (ltb (length (b ∷ s)) packetAt) (inRange boards (b ∷ s)) (ltb (length (b ∷ s)) (packetAt + sizeIn (b ∷ s)))
-    (reading boards s (indexSize + 6 + sizeIn (b ∷ s))) (records-in boards s (indexSize + 6 + sizeIn (b ∷ s)))
-  where
-    by-tests :
-        (head right cut : Bool) (after : Reading) → length (recordsOf after) ≤ length s
-        → length (recordsOf (cond head (left (b ∷ s)) (cond (not right) wrong (cond cut (left (b ∷ s)) (item (recordIn (b ∷ s)) after))))) ≤ length (b ∷ s)
-    by-tests true right cut after h = omega arith
-    by-tests false false cut after h = omega arith
-    by-tests false true true after h = omega arith
-    by-tests false true false after h = omega arith
-
 pub records-few : (boards : ℕ) (bytes : List ℕ) → length (recordsOf (read boards bytes)) ≤ length bytes
-records-few boards bytes = records-in boards bytes 0
+unfolding recordsOf
+records-few boards bytes =
+    of-readings (λ (l : List ℕ) (r : Reading). length (recordsOf r) ≤ length l)
+    (record {
+      none-left = omega arith;
+      passed-over = λ b s r h. omega arith;
+      head-cut = λ l few. omega arith;
+      out-of-range = λ l. omega arith;
+      packet-cut = λ l right few. omega arith;
+      whole = λ b s r right h. omega arith;
+    })
+    bytes 0
 
 -- the counts of all boards
 abbrev pub none-yet : List ℕ

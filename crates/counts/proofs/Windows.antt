@@ -1,21 +1,20 @@
 -- A window that is read into in turns: what it comes to, and that it keeps room.
-use Prim.Native.Nat.{ℕ, zero, suc, _+_, _*_, _<_}
+use Prim.Native.Nat.{ℕ, _+_, _*_, _<_}
 use native.Mathlib.Omega.{arith}
-use mathlib.Core.Bool.{Bool, true, false, cond, not}
+use mathlib.Core.Bool.{Bool, true, false, cond}
 use mathlib.Core.List.{List, [], _∷_, _++_}
 use mathlib.Core.Path.{_≡_, refl, sym, ap, _∙_}
-use borrow.Author.Tests.{ltb-true}
-use lib.Dec.{ltb}
 use lib.ListN.{length, take, drop}
 use lib.Seq.{take-at}
-use Rattle.captures.specs.Form.{indexSize, packetAt, boardLimit}
-use Rattle.captures.specs.Reading.{indexIn, directionIn, sizeIn, recordIn, inRange, Reading, left, wrong, item, reading, read, recordsOf}
+use Rattle.captures.specs.Form.{packetAt, boardLimit}
+use Rattle.captures.specs.Reading.{indexIn, directionIn, sizeIn, Reading, left, wrong, item, read, recordsOf}
 use Rattle.counts.specs.Counting.{numbersPerBoard, counted, endOf, leftOf, endingNumber, windowPart, CountsWindow}
 use Rattle.counts.specs.Text.{textOf}
 use Rattle.counts.specs.Statements.{zeros, Progress, isWrong, start, after, taken, allTaken, progressText, textAs, Turns, ended, stopped, turned, WindowsSum, LeftShort}
 use Rattle.counts.specs.declared.counting.Ending.{Ending}
 use Rattle.counts.specs.declared.counting.Ending.the-variants.{Left, Wrong}
 use Rattle.captures.proofs.Ranges.{ranges}
+use Rattle.captures.proofs.Readings.{of-readings}
 use Rattle.counts.proofs.Moving.{left-size}
 use Rattle.counts.proofs.Pieces.{number-after, pieces-summed}
 
@@ -103,22 +102,16 @@ windows-sum boards ids records front window counts after moved final pieces answ
     ∙ ap (λ o. textAs o front pieces) (sym head)
     ∙ pieces-summed front pieces long few
 
-left-short : (boards : ℕ) (bytes : List ℕ) (k : ℕ) → length (leftOf (reading boards bytes k)) < packetAt + 256
-unfolding reading leftOf
-left-short boards [] k = omega arith
-left-short boards (b ∷ s) (suc k) = left-short boards s k
-left-short boards (b ∷ s) zero =
-    by-tests (ltb (length (b ∷ s)) packetAt) refl (inRange boards (b ∷ s)) refl (ltb (length (b ∷ s)) (packetAt + sizeIn (b ∷ s))) refl
-    (reading boards s (indexSize + 6 + sizeIn (b ∷ s))) (left-short boards s (indexSize + 6 + sizeIn (b ∷ s)))
-  where
-    by-tests :
-        (head : Bool) → ltb (length (b ∷ s)) packetAt ≡ head → (right : Bool) → inRange boards (b ∷ s) ≡ right
-        → (cut : Bool) → ltb (length (b ∷ s)) (packetAt + sizeIn (b ∷ s)) ≡ cut → (rest : Reading) → length (leftOf rest) < packetAt + 256
-        → length (leftOf (cond head (left (b ∷ s)) (cond (not right) wrong (cond cut (left (b ∷ s)) (item (recordIn (b ∷ s)) rest))))) < packetAt + 256
-    by-tests true few right in-range cut short rest h = omega (arith, ltb-true (length (b ∷ s)) packetAt few)
-    by-tests false few false in-range cut short rest h = omega arith
-    by-tests false few true in-range true short rest h = omega (arith, ltb-true (length (b ∷ s)) (packetAt + sizeIn (b ∷ s)) short, ranges boards (indexIn (b ∷ s)) (directionIn (b ∷ s)) (sizeIn (b ∷ s)) in-range)
-    by-tests false few true in-range false short rest h = h
-
-pub left-shorter : LeftShort
-left-shorter boards bytes = left-short boards bytes 0
+pub left-short : LeftShort
+unfolding leftOf
+left-short boards bytes =
+    of-readings (λ (l : List ℕ) (r : Reading). length (leftOf r) < packetAt + 256)
+    (record {
+      none-left = omega arith;
+      passed-over = λ b s r h. h;
+      head-cut = λ l few. omega arith;
+      out-of-range = λ l. omega arith;
+      packet-cut = λ l right few. omega (arith, ranges boards (indexIn l) (directionIn l) (sizeIn l) right);
+      whole = λ b s r right h. h;
+    })
+    bytes 0
