@@ -10,3 +10,4 @@ pub mod Appending
 pub mod Pieces
 pub mod Ranges
 pub mod WritesRead
+pub mod Told

@@ -1,13 +1,15 @@
 -- What holds of captures, beside the contracts.
 use Prim.Native.Nat.{ℕ, _+_, _-_, _*_, _^_, _<_, _≤_}
-use mathlib.Core.Bool.{true, false}
+use mathlib.Core.Bool.{true, false, cond}
 use mathlib.Core.List.{List, [], _∷_, _++_}
-use mathlib.Core.Option.{none}
+use mathlib.Core.Option.{none, Option·getD}
 use mathlib.Core.Path.{_≡_}
 use lib.ListN.{length, take, drop, getD}
 use Rattle.captures.specs.Form.{Record, recordOf, boardLimit, idsAt, recordBytes, boardsOf, headBytes, captureBytes}
-use Rattle.captures.specs.Reading.{Reading, left, wrong, item, boardCount, read, readIn, headRefusal, captureRefusal, idsIn, recordsIn, openedOf, nextRecord}
+use Rattle.captures.specs.Reading.{Reading, left, wrong, item, boardCount, read, readIn, headRefusal, captureRefusal, idsIn, recordsIn, openedOf, openedNumber, nextRecord, nextNumber, wrongRecord}
 use Rattle.captures.specs.Writing.{wrongIds, everyInRange, WriteCall, recordsGiven, writeRefusal}
+use Rattle.captures.specs.declared.reading.Opened.{Opened}
+use Rattle.captures.specs.declared.reading.Opened.the-variants as opened
 use Rattle.captures.specs.declared.reading.NextRecord.{NextRecord}
 use Rattle.captures.specs.declared.reading.NextRecord.the-variants as next
 
@@ -94,3 +96,22 @@ readAfter again bytes (next.Record index direction counter packet rest) =
 
 abbrev pub ReadStep : Type 0
 ReadStep = (boards : ℕ) (bytes : List ℕ) → read boards bytes ≡ readAfter (read boards) bytes (nextRecord boards bytes)
+
+-- the number of the records' refusal, 0 for none
+abbrev pub recordsNumber : ℕ → List ℕ → ℕ
+recordsNumber boards bytes = cond (wrongRecord (read boards bytes)) 53 0
+
+abbrev pub numberAfter : (List ℕ → ℕ) → List ℕ → NextRecord → ℕ
+numberAfter again bytes next.End = nextNumber next.End
+numberAfter again bytes next.Cut = nextNumber next.Cut
+numberAfter again bytes next.Wrong = nextNumber next.Wrong
+numberAfter again bytes (next.Record index direction counter packet rest) = again (drop (length bytes - rest) bytes)
+
+abbrev pub numberAs : List ℕ → Opened → ℕ
+numberAs capture (opened.Refused number) = openedNumber (opened.Refused number)
+numberAs capture (opened.Capture boards ids records) = recordsNumber boards (drop records capture)
+
+-- the refusal of a capture is told by `open`, or by the last answer of `next_record`
+pub record RefusalsTold : Type 0 where
+  pub by-head : (capture : List ℕ) → Option·getD (captureRefusal capture) 0 ≡ numberAs capture (openedOf capture)
+  pub by-record : (boards : ℕ) (bytes : List ℕ) → recordsNumber boards bytes ≡ numberAfter (recordsNumber boards) bytes (nextRecord boards bytes)

@@ -2,17 +2,17 @@
 use Prim.Native.Nat.{ℕ, _+_, _*_, _/_, _%_, _<_, _≤_}
 use native.Mathlib.Omega.{arith}
 use mathlib.Core.Bool.{Bool, true, false, cond, not}
-use mathlib.Core.List.{List, [], _∷_, _++_}
-use mathlib.Core.Option.{Option, none, some, orElse}
+use mathlib.Core.List.{List, [], _++_}
+use mathlib.Core.Option.{Option, none, some}
 use mathlib.Core.Path.{_≡_, refl, sym, ap, _∙_}
 use borrow.Author.Tests.{ne-eqb}
 use lib.Dec.{eqb}
 use lib.ListN.{length, drop, length-drop, length-replicate}
-use Rattle.framing.specs.Refusal.{refusal, firstRefusal}
-use Rattle.framing.proofs.Refusals.{first-of-joined, refused-then, passed-then}
+use Rattle.framing.proofs.Refusals.{refused-then, passed-then}
 use Rattle.captures.specs.Form.{Record, boardLimit}
-use Rattle.captures.specs.Reading.{boardCount, recordsAt, headRefusals, headRefusal, Reading, left, wrong, item, read, readIn, recordsOf, wrongRecord, recordsAs, recordsIn, captureRefusals, captureRefusal, openedAs, openedOf}
+use Rattle.captures.specs.Reading.{boardCount, recordsAt, headRefusal, Reading, left, wrong, item, read, readIn, recordsOf, wrongRecord, recordsAs, recordsIn, captureRefusal, openedAs, openedOf}
 use Rattle.captures.proofs.Readings.{of-readings}
+use Rattle.captures.proofs.Told.{refusal-then}
 use Rattle.captures.specs.declared.reading.Opened.the-variants as opened
 use Rattle.tool.specs.Listing.{refusedLine}
 use Rattle.counts.specs.Counting.{numbersPerBoard, placeOf, countLimit, countOf, counted, endOf, endingNumber, Counts}
@@ -82,10 +82,6 @@ module _ (capture : List ℕ) where
       let told = accepted-by (headRefusal capture) e in
       record { accepted = told .0; boards-told = told .1 .0; records-told = told .1 .1 }
 
-  refusal-then : captureRefusal capture ≡ orElse (headRefusal capture) (cond (wrongRecord (readIn capture)) (some 53) none)
-  unfolding captureRefusal captureRefusals headRefusal firstRefusal
-  refusal-then = first-of-joined capture headRefusals (refusal 53 (λ (c : List ℕ). wrongRecord (readIn c)) ∷ [])
-
   last-refused : {number : ℕ} → openedOf capture ≡ opened.Refused number → lastLine number ≡ refusedLine number
   last-refused {number} e =
       let some-number = head-some capture (refused-by (headRefusal capture) e) in
@@ -96,7 +92,7 @@ module _ (capture : List ℕ) where
   unfolding each countOf
   summary-refused e =
       let head = refused-by (headRefusal capture) e in
-      λ i. recordLines (recordsAs (head i) capture) ++ refusedAs ((refusal-then ∙ refused-then _ head) i)
+      λ i. recordLines (recordsAs (head i) capture) ++ refusedAs ((refusal-then capture ∙ refused-then _ head) i)
 
   pub refused-shown : {number : ℕ} → openedOf capture ≡ opened.Refused number → textOf [] number ≡ summaryOf capture
   unfolding linesOf each
