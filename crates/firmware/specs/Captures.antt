@@ -1,0 +1,70 @@
+-- The answers of the calls on captures in numbers, for callers in other languages.
+use Prim.Native.Nat.{ℕ}
+use mathlib.Core.List.{List}
+use mathlib.Core.Option.{Option}
+use mathlib.Core.Path.{_≡_}
+use Rattle.framing.specs.Refusal.{firstRefusal}
+use Rattle.octets.specs.Octets.{overwrite}
+use Rattle.captures.specs.Form.{recordBytes, headBytes}
+use Rattle.captures.specs.Reading.{Reading, recordsOf}
+use Rattle.captures.specs.Writing.{writtenAs, bufferAs, HeadCall, headCallRefusals, RecordCall, recordCallRefusals, WriteCall, writeRefusal, bytesGiven}
+use Rattle.captures.specs.declared.reading.NextRecord.{NextRecord}
+use Rattle.captures.specs.declared.reading.NextRecord.the-variants as next
+use Rattle.captures.specs.declared.reading.Opened.{Opened}
+use Rattle.captures.specs.declared.reading.Opened.the-variants as opened
+use Rattle.captures.specs.declared.writing.Written.{Written}
+use Rattle.captures.specs.declared.writing.Written.the-variants as written
+use Rattle.counts.specs.Counting.{counted, endOf, leftOf}
+use Rattle.counts.specs.declared.counting.Ending.{Ending}
+use Rattle.counts.specs.declared.counting.Ending.the-variants as ending
+use Rattle.firmware.specs.Reply.{replyWith}
+use Rattle.firmware.specs.declared.capture.CaptureRecord.{CaptureRecord}
+use Rattle.firmware.specs.declared.capture.OpenedCapture.{OpenedCapture}
+use Rattle.firmware.specs.declared.Reply.{Reply}
+
+-- refusal 0: opened
+abbrev pub openedInNumbers : Opened → OpenedCapture
+openedInNumbers (opened.Capture boards ids records) = record { refusal = 0; boards = boards; ids = ids; records = records }
+openedInNumbers (opened.Refused number) = record { refusal = number; boards = 0; ids = 0; records = 0 }
+
+abbrev pub noRecord : ℕ → CaptureRecord
+noRecord kind = record { kind = kind; direction = 0; index = 0; counter = 0; packet = 0; rest = 0 }
+
+-- kind 0: a record
+abbrev pub nextInNumbers : NextRecord → CaptureRecord
+nextInNumbers (next.Record index direction counter packet rest) =
+    record { kind = 0; direction = direction; index = index; counter = counter; packet = packet; rest = rest }
+nextInNumbers next.End = noRecord 1
+nextInNumbers next.Cut = noRecord 2
+nextInNumbers next.Wrong = noRecord 3
+
+-- refusal 0: written
+abbrev pub writtenReply : Written → Reply
+writtenReply (written.Length length) = replyWith 0 length
+writtenReply (written.Refused number) = replyWith number 0
+
+-- these bytes, or this refusal
+pub record WritesInNumbers (refused : Option ℕ) (bytes buffer : List ℕ) (reply : Reply) (after : List ℕ) : Type 0 where
+  pub answered : reply ≡ writtenReply (writtenAs refused bytes)
+  pub held : after ≡ bufferAs refused buffer bytes
+
+-- the contracts of the three writers
+abbrev pub WritesHead : HeadCall → Reply → List ℕ → Type 0
+WritesHead call reply after = WritesInNumbers (firstRefusal headCallRefusals call) (headBytes (call .ids)) (call .buffer) reply after
+
+abbrev pub WritesRecord : RecordCall → Reply → List ℕ → Type 0
+WritesRecord call reply after = WritesInNumbers (firstRefusal recordCallRefusals call) (recordBytes (call .given)) (call .buffer) reply after
+
+abbrev pub WritesCapture : WriteCall → Reply → List ℕ → Type 0
+WritesCapture call reply after = WritesInNumbers (writeRefusal call) (bytesGiven call) (call .buffer) reply after
+
+-- refusal 0: so many bytes are left
+abbrev pub endingReply : Ending → Reply
+endingReply (ending.Left size) = replyWith 0 size
+endingReply ending.Wrong = replyWith 53 0
+
+-- the contract of `udgornwy_count_window`: what is read is counted, and the bytes that are left stand at the window's start
+pub record CountsInNumbers (reading : Reading) (window before : List ℕ) (reply : Reply) (after moved : List ℕ) : Type 0 where
+  pub answered : reply ≡ endingReply (endOf reading)
+  pub counts : after ≡ counted before (recordsOf reading)
+  pub kept : moved ≡ overwrite window 0 (leftOf reading)
