@@ -1,5 +1,6 @@
 /*
- * Udgornwy: the controller board of a Micra 100 WiFi unit, and the tool that writes its requests and reads its responses.
+ * Udgornwy: the controller board of a Micra 100 WiFi unit, the tool that writes its requests and reads its responses, and captures of their
+ * packets.
  *
  * For C (C11) and C++ (C++11). Link target/staticlib/libfirmware.a, which `rt staticlib firmware` writes; with --gc-sections only what
  * is called comes along. It allocates nothing, keeps nothing between calls and calls nothing but memcpy, memmove and memset.
@@ -10,7 +11,8 @@
  *  - A slice is a pointer and a count. The pointer must not be null, also where the count is 0. What a call writes to, record or buffer,
  *    must not overlap another argument, nor be used by another thread meanwhile.
  *  - A refusal is a number above 0. Where several apply, the first in the order listed is given.
- *  - A refused call leaves the record and every buffer as they were.
+ *  - A refused call leaves the record and every buffer as they were. Only udgornwy_count_window has then counted what stands before the
+ *    fault.
  *  - Values of several bytes have the low byte first.
  */
 #ifndef UDGORNWY_H
@@ -96,7 +98,6 @@ UDGORNWY_ASSERT(offsetof(udgornwy_reply, length) == sizeof(size_t), "the refusal
 UDGORNWY_ASSERT(sizeof(udgornwy_reply) == 2 * sizeof(size_t), "nothing follows the length");
 UDGORNWY_ASSERT(offsetof(udgornwy_parts, places) == sizeof(size_t), "the refusal takes the room of a place");
 UDGORNWY_ASSERT(sizeof(udgornwy_parts) == 6 * sizeof(size_t), "nothing follows the places");
-#undef UDGORNWY_ASSERT
 
 /* ---- Packets ---- */
 
@@ -192,6 +193,130 @@ uint16_t udgornwy_read(const uint8_t *packet, size_t packet_length, const uint8_
  *    1  the listing does not fit the text
  */
 udgornwy_reply udgornwy_list(uint8_t *text, size_t text_length, const uint8_t *packet, size_t packet_length);
+
+/* ---- Captures ---- */
+
+/*
+ * A capture keeps packets as they were sent, damaged ones too: a head with the IDs of 1 to 16 boards, and then records, each with one packet.
+ *
+ * A CAPTURE BEARS THE PASSWORDS OF ITS REQUESTS, in plain. Keep it as one keeps passwords.
+ */
+enum {
+    UDGORNWY_MOST_BOARDS = 16,
+    UDGORNWY_LONGEST_HEAD = 262,
+    UDGORNWY_LONGEST_RECORD = 264,
+    UDGORNWY_NUMBERS = 11,           /* counts of a board: of the numbers 0 to 10 */
+    UDGORNWY_LONGEST_SUMMARY = 4763, /* bytes of the longest text of 16 boards' counts */
+    UDGORNWY_REQUEST = 0,            /* the directions */
+    UDGORNWY_RESPONSE = 1,
+    UDGORNWY_RECORD = 0,             /* the kinds of what stands first: a record */
+    UDGORNWY_RECORDS_END = 1,        /* nothing, no record is left */
+    UDGORNWY_RECORD_CUT = 2,         /* the start of a record: refusal 53, where no more bytes come */
+    UDGORNWY_RECORD_WRONG = 3        /* a field outside its range: refusal 53 */
+};
+
+/* The head of a capture. */
+typedef struct {
+    uint16_t refusal; /* 0: not refused; else all behind it is 0 */
+    uint16_t boards;  /* so many IDs, and an index is below it */
+    size_t ids;       /* 16 bytes each from here */
+    size_t records;   /* from here on */
+} udgornwy_opened;
+
+/* What stands first in what is left of a capture's records. */
+typedef struct {
+    uint8_t kind;      /* with any other than UDGORNWY_RECORD all behind it is 0 */
+    uint8_t direction;
+    uint16_t index;    /* of the board */
+    uint32_t counter;  /* milliseconds */
+    size_t packet;     /* so many bytes are left where the packet starts */
+    size_t rest;       /* and so many after it, where the next record starts */
+} udgornwy_capture_record;
+
+UDGORNWY_ASSERT(offsetof(udgornwy_opened, boards) == 2, "the board count follows the refusal");
+UDGORNWY_ASSERT(offsetof(udgornwy_opened, ids) == sizeof(size_t), "refusal and board count take the room of a place");
+UDGORNWY_ASSERT(sizeof(udgornwy_opened) == 3 * sizeof(size_t), "nothing follows the places");
+UDGORNWY_ASSERT(offsetof(udgornwy_capture_record, direction) == 1, "the direction follows the kind");
+UDGORNWY_ASSERT(offsetof(udgornwy_capture_record, index) == 2, "the index follows the direction");
+UDGORNWY_ASSERT(offsetof(udgornwy_capture_record, counter) == 4, "the counter follows the index");
+UDGORNWY_ASSERT(offsetof(udgornwy_capture_record, packet) == 8, "a count of bytes follows the counter");
+UDGORNWY_ASSERT(sizeof(udgornwy_capture_record) == 8 + 2 * sizeof(size_t), "nothing follows the counts");
+#undef UDGORNWY_ASSERT
+
+/*
+ * Opens a capture: all of its bytes, or the first 262 or more.
+ * Refusals:
+ *   50  it does not begin with VLG
+ *   51  the version is not 1, or is cut short
+ *   52  the board count is not 1 to 16, or the IDs are cut short
+ */
+udgornwy_opened udgornwy_open_capture(const uint8_t *capture, size_t capture_length);
+
+/*
+ * Takes the first record of what is left of a capture of so many boards, at first all from `records` on, and then the last `rest` bytes
+ * again and again. The packet stands from where `packet` bytes are left to where `rest` bytes are left. It is not judged.
+ */
+udgornwy_capture_record udgornwy_next_record(const uint8_t *rest, size_t rest_length, uint16_t boards);
+
+/*
+ * Writes the head of a capture of the boards with these IDs, 16 bytes each, one after another. The records go behind it, one after another.
+ * Refusals:
+ *   52  the bytes of the IDs are no multiple of 16, or make no board, or more than 16
+ *   54  the buffer is shorter than the head; 262 bytes are enough
+ */
+udgornwy_reply udgornwy_write_head(uint8_t *buffer, size_t buffer_length, const uint8_t *ids, size_t ids_length);
+
+/*
+ * Writes a record of a capture of so many boards.
+ * Refusals:
+ *   52  boards not 1 to 16
+ *   53  the index is not below boards, the direction is above 1, or the packet has over 256 bytes
+ *   54  the buffer is shorter than the record; 264 bytes are enough
+ */
+udgornwy_reply udgornwy_write_record(uint8_t *buffer, size_t buffer_length, uint16_t boards, uint16_t index, uint8_t direction,
+                                     uint32_t counter, const uint8_t *packet, size_t packet_length);
+
+/*
+ * Writes a capture: the head of these IDs, and the records. Record i has index indexes[i], direction directions[i], counter counters[i] and a
+ * packet of lengths[i] bytes; the packets stand one after the other. The four counts are the same.
+ * Refusals:
+ *   52  as for udgornwy_write_head
+ *   53  the counts differ, or the lengths do not add up to packets_length, or a record is one that udgornwy_write_record refuses with 53
+ *   54  the buffer is shorter than the capture
+ */
+udgornwy_reply udgornwy_write_capture(uint8_t *buffer, size_t buffer_length, const uint8_t *ids, size_t ids_length, const uint16_t *indexes,
+                                      size_t indexes_count, const uint8_t *directions, size_t directions_count, const uint32_t *counters,
+                                      size_t counters_count, const uint16_t *lengths, size_t lengths_count, const uint8_t *packets,
+                                      size_t packets_length);
+
+/*
+ * To sum up a capture of any length through a window of 264 bytes or more, with 16 * 11 counts that are 0 at first:
+ *  1. Read until the window has 262 bytes or the capture ends, and open what was read. Where that is refused, go to 4 with that number.
+ *  2. Count with udgornwy_count_window, from `records` to the end of what was read. Where that is refused, go to 4 with 53.
+ *  3. Its `length` bytes that are left stand at the window's start. Read more bytes behind them, and do 2 again, from 0 on. Where no more
+ *     come, go to 4 with 53 if any are left, else with 0.
+ *  4. Show the counts with udgornwy_show_counts and that number.
+ */
+
+/*
+ * Counts the records of a capture of so many boards that stand in the window from start to end, or to the window's end where that comes
+ * first. A packet of board i that is judged with n is counted at counts[i * 11 + n], if there is one; a full count stays. n is 0, or what
+ * refuses the packet first: 2 to 6 as for udgornwy_parse, then 9 and 10, as for udgornwy_packet of a request and udgornwy_read of a response.
+ * The length answered is that of the bytes left, the start of a record, which are moved to the window's start.
+ * Refusal:
+ *   53  a record with a field outside its range: those before it are counted
+ */
+udgornwy_reply udgornwy_count_window(uint64_t *counts, size_t counts_count, uint8_t *window, size_t window_length, size_t start, size_t end,
+                                     uint16_t boards);
+
+/*
+ * Writes counts as text: the line "index,number,count" for each that is not 0, ascending, and then "refused,N" where the refusal N is not 0.
+ * Lines end in LF; there is no byte 0 at the end.
+ * text needs the text's own length; 4763 bytes are enough for 16 * 11 counts.
+ * Refusal:
+ *    1  the text does not fit
+ */
+udgornwy_reply udgornwy_show_counts(uint8_t *text, size_t text_length, const uint64_t *counts, size_t counts_count, uint8_t refusal);
 
 #ifdef __cplusplus
 }

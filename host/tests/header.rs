@@ -6,11 +6,68 @@ use std::process::{Command, Stdio};
 
 use udgornwy::ffi::Board;
 
-/// Writes the last entry of the schedule, finds the request's ID, and looks for the entry where the header has it.
+/// Writes the last entry of the schedule, finds the request's ID, and looks for the entry where the header has it. Then keeps the request, and
+/// what is left of it without its last byte, in a capture of two boards: written at once and in turn, taken apart, and counted through a window.
 const PROGRAM: &str = r#"
 #include <stdio.h>
+#include <string.h>
 #include "udgornwy.h"
 #include "udgornwy.h"
+
+enum { IDS = 2 * UDGORNWY_ID, COUNTS = 2 * UDGORNWY_NUMBERS, ROOM = UDGORNWY_LONGEST_HEAD + 2 * UDGORNWY_LONGEST_RECORD };
+
+static const uint16_t indexes[] = {0, 1};
+static const uint8_t ids[IDS] = {1, 2}, directions[] = {UDGORNWY_REQUEST, UDGORNWY_RESPONSE};
+static const uint32_t counters[] = {1000, 4000000000};
+
+static size_t written_in_turn(uint8_t *capture, const uint8_t *packet, const uint16_t *lengths)
+{
+    size_t end = udgornwy_write_head(capture, ROOM, ids, IDS).length;
+    for (int i = 0; i < 2; i++)
+        end += udgornwy_write_record(capture + end, ROOM - end, 2, indexes[i], directions[i], counters[i], packet, lengths[i]).length;
+    return end;
+}
+
+static void take_apart(const uint8_t *end, size_t left, uint16_t boards)
+{
+    udgornwy_capture_record record;
+    do {
+        record = udgornwy_next_record(end - left, left, boards);
+        printf("%u: %u %u %lu %u %u\n", record.kind, record.direction, record.index, (unsigned long)record.counter,
+               (unsigned)record.packet, (unsigned)record.rest);
+        left = record.rest;
+    } while (record.kind == UDGORNWY_RECORD);
+}
+
+/* The last byte is counted in a second turn. */
+static void count(uint8_t *window, size_t records, size_t end)
+{
+    uint64_t counts[COUNTS] = {0};
+    uint8_t text[UDGORNWY_LONGEST_SUMMARY], last = window[end - 1];
+    udgornwy_reply first = udgornwy_count_window(counts, COUNTS, window, ROOM, records, end - 1, 2);
+    window[first.length] = last;
+    udgornwy_reply second = udgornwy_count_window(counts, COUNTS, window, ROOM, 0, first.length + 1, 2);
+    udgornwy_reply shown = udgornwy_show_counts(text, sizeof text, counts, COUNTS, 53);
+    printf("%u %u, %u %u, %u: %.*s", first.refusal, (unsigned)first.length, second.refusal, (unsigned)second.length, shown.refusal,
+           (int)shown.length, (const char *)text);
+}
+
+static void captures(const uint8_t *packet, size_t size)
+{
+    const uint16_t lengths[] = {(uint16_t)size, (uint16_t)(size - 1)};
+    uint8_t packets[2 * UDGORNWY_LONGEST_PACKET], whole[ROOM], parts[ROOM];
+    memcpy(packets, packet, size);
+    memcpy(packets + size, packet, size - 1);
+    udgornwy_reply written = udgornwy_write_capture(whole, ROOM, ids, IDS, indexes, 2, directions, 2, counters, 2, lengths, 2,
+                                                    packets, 2 * size - 1);
+    size_t end = written_in_turn(parts, packet, lengths);
+    udgornwy_opened opened = udgornwy_open_capture(whole, written.length);
+    udgornwy_opened cut = udgornwy_open_capture(whole, opened.records - 1);
+    printf("%u %u: %d\n", written.refusal, (unsigned)end, end == written.length && memcmp(whole, parts, end) == 0);
+    printf("%u: %u %u %u, %u: %u\n", opened.refusal, opened.boards, (unsigned)opened.ids, (unsigned)opened.records, cut.refusal, cut.boards);
+    take_apart(whole + end, end - opened.records, opened.boards);
+    count(whole, opened.records, end);
+}
 
 int main(void)
 {
@@ -28,9 +85,22 @@ int main(void)
     printf("%d: %u %u %u, %u %u %u %u\n", (int)sizeof(udgornwy_board), result.refusal, request.refusal, answer.refusal,
            last.speed, last.temperature, last.minute, last.hour);
     printf("%u: %u %u, %u: %u\n", parts.refusal, packet[parts.places.id], (unsigned)parts.places.end, cut.refusal, (unsigned)cut.places.end);
+    captures(packet, request.length);
     return 0;
 }
 "#;
+
+/// The capture: its length, its head, its records, and its summary.
+const CAPTURES: &str = "\
+0 121: 1
+0: 2 6 38, 52: 0
+0: 0 0 1000 75 41
+0: 1 1 4000000000 33 0
+1: 0 0 0 0 0
+0 40, 0 0, 0: 0,0,1
+1,4,1
+refused,53
+";
 
 fn compiled(compiler: &str, language: &str, standard: &str) -> String {
     let host = Path::new(env!("CARGO_MANIFEST_DIR"));
@@ -56,7 +126,7 @@ fn compiled(compiler: &str, language: &str, standard: &str) -> String {
 
 fn expected() -> String {
     let board = std::mem::size_of::<Board>();
-    format!("{board}: 0 0 0, 5 30 59 23\n0: 1 32, 4: 0\n")
+    format!("{board}: 0 0 0, 5 30 59 23\n0: 1 32, 4: 0\n{CAPTURES}")
 }
 
 #[test]
