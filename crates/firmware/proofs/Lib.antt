@@ -1,2 +1,2 @@
 pub mod Exported
-pub mod Writing
+pub mod Numbers

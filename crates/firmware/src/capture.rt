@@ -4,7 +4,6 @@ use captures::reading::NextRecord;
 use captures::reading::Opened;
 use captures::writing::Written;
 use counts::counting::Ending;
-use counts::text::Shown;
 ghost use mathlib.Core.Path.{_≡_};
 ghost use Rattle.captures.specs.Form.{recordOf};
 ghost use Rattle.captures.specs.Reading.{openedOf, nextRecord, read};
@@ -186,16 +185,10 @@ pub extern "C" fn udgornwy_count_window(
     }
 }
 
-// Writes counts, and the line of a refusal where its number is not 0, into the first bytes of `text`. Refusal 1: they do not fit.
+// Writes counts, and the line of a refusal where its number is not 0, into the first bytes of `text`.
 #[no_mangle]
 pub extern "C" fn udgornwy_show_counts(text: &mut [u8], counts: &[u64], refusal: u8) -> Reply
     ensures { λ r. ⌜ ListsInNumbers (textOf (now (counts .entry)) refusal) (now (text .entry)) r (now (text .exit)) ⌝ }
 {
-    match counts::text::write(text, counts, refusal) {
-        Shown::Length(length) => Reply { refusal: 0, length },
-        Shown::NoRoom => Reply {
-            refusal: 1,
-            length: 0,
-        },
-    }
+    super::client::listed_reply(counts::text::write(text, counts, refusal))
 }

@@ -1,6 +1,6 @@
 -- `firmware::capture::udgornwy_write_capture` meets its contract.
 use borrow.Author.Needs.{needs}
-use Rattle.firmware.proofs.Writing.{in-numbers}
+use Rattle.firmware.proofs.Numbers.{written-in-numbers}
 use Rattle.firmware.proofs.capture.udgornwy_write_capture.Statement.{statement}
 use Rattle.firmware.proofs.capture.udgornwy_write_capture.Tie as tie
 
@@ -14,7 +14,7 @@ same-length : tie.Need-same-length
 same-length c = search needs
 
 returns : tie.Need-returns
-returns c = in-numbers (c .before .before .before .write .ensures) (c .written-reply .ensures)
+returns c = written-in-numbers (c .before .before .before .write .ensures) (c .written-reply .ensures)
 
 pub udgornwy-write-capture-spec : {M : Type 1} → statement M
 udgornwy-write-capture-spec =
