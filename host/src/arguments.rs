@@ -13,6 +13,7 @@ use crate::questions;
 use crate::request::{Kind, Raw, Request};
 use crate::rows;
 use crate::server::Settings;
+use crate::summary::Source;
 use crate::target;
 use crate::values;
 
@@ -21,6 +22,7 @@ pub enum Task {
     /// Something to read, on standard output.
     Print(String),
     Board(Settings),
+    Summary(Source),
     Request(Request),
 }
 
@@ -47,6 +49,11 @@ const REQUEST: Form = Form {
 const SEARCH: Form = Form {
     valued: &["--host", "-t", "-r", "--format", "--raw"],
     flags: &["-d"],
+};
+
+const SUMMARY: Form = Form {
+    valued: &[],
+    flags: &[],
 };
 
 const LISTEN: &str = "127.0.0.1:4000";
@@ -84,6 +91,7 @@ pub fn parse(arguments: &[String]) -> Result<Task, String> {
         "lower" => parse_request(rest, NO_RETRIES, |words| questions::steps(LOWER, words)),
         "schedule" => parse_schedule(rest),
         "search" => parse_search(rest),
+        "summary" => parse_summary(rest),
         _ => Err(format!("there is no command `{command}`")),
     }
 }
@@ -155,6 +163,16 @@ fn parse_search(arguments: &[String]) -> Result<Task, String> {
     }
     let commands = vec![questions::read(0x007C), questions::read(0x00B9)];
     request(&options, Kind::Search, commands, RETRIES)
+}
+
+fn parse_summary(arguments: &[String]) -> Result<Task, String> {
+    let options = Options::parse(arguments, &SUMMARY)?;
+    match options.words()[..] {
+        [] => Err(String::from("there is no file")),
+        ["-"] => Ok(Task::Summary(Source::StandardInput)),
+        [path] => Ok(Task::Summary(Source::File(PathBuf::from(path)))),
+        [_, word, ..] => Err(unwanted(word)),
+    }
 }
 
 fn request(
@@ -402,6 +420,21 @@ mod tests {
     }
 
     #[test]
+    fn a_summary_is_of_a_file_or_of_standard_input() {
+        for (text, source) in [
+            ("summary -", Source::StandardInput),
+            ("summary -- -", Source::StandardInput),
+            ("summary ./-", Source::File(PathBuf::from("./-"))),
+            ("summary -- --help", Source::File(PathBuf::from("--help"))),
+        ] {
+            match parsed(text) {
+                Ok(Task::Summary(parsed)) => assert_eq!(parsed, source),
+                other => panic!("{text}: {other:?}"),
+            }
+        }
+    }
+
+    #[test]
     fn time_limits_and_retries_have_bounds() {
         for bad in ["0", "-1", "nan", "inf", "1e9", "1s", ""] {
             assert!(parse_limit(Some(bad)).is_err(), "{bad}");
@@ -430,6 +463,11 @@ mod tests {
             "board --id 002D6E1B34565815 --password 1111 --mode ap --listen here",
             "board --id 002D6E1B34565815 --password 1111 --mode ap --measure 0x001E",
             "board --id 002D6E1B34565815 --password 1111 --mode ap extra",
+            "summary",
+            "summary a b",
+            "summary - -",
+            "summary --format json a",
+            "summary -d",
         ] {
             assert!(parsed(bad).is_err(), "{bad}");
         }

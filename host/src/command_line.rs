@@ -4,7 +4,7 @@ use std::ffi::OsString;
 use std::process::ExitCode;
 
 use crate::arguments::{self, Task};
-use crate::{client, output, server, signals};
+use crate::{client, output, server, signals, summary};
 
 const FAILED: u8 = 1;
 const BAD_ARGUMENTS: u8 = 2;
@@ -17,6 +17,7 @@ pub fn run(arguments: impl Iterator<Item = OsString>) -> ExitCode {
     };
     let done = match task {
         Task::Print(text) => output::put(text.as_bytes()),
+        Task::Summary(source) => summary::run(&source),
         Task::Request(request) => match client::run(&request) {
             true => Ok(()),
             // It has said why.

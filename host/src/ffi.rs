@@ -1,5 +1,7 @@
 //! The functions of include/udgornwy.h, each behind one safe function.
 
+pub mod captures;
+
 use crate::refusal::Refusal;
 
 pub const ID_SIZE: usize = 16;
@@ -274,7 +276,7 @@ fn written<'a>(reply: &Reply, buffer: &'a [u8]) -> Result<&'a [u8], Refusal> {
     Ok(&buffer[..reply.length.min(buffer.len())])
 }
 
-/// A length past 65,535 does not add up with the value's bytes, which the library refuses with 41.
-fn length_of(value: &[u8]) -> u16 {
-    u16::try_from(value.len()).unwrap_or(u16::MAX)
+/// A length past 65,535 does not add up with the bytes of all, which the library refuses: with 41 for values, with 53 for packets.
+fn length_of(bytes: &[u8]) -> u16 {
+    u16::try_from(bytes.len()).unwrap_or(u16::MAX)
 }

@@ -23,6 +23,7 @@ pub fn of(command: &str) -> Option<String> {
         "raise" | "lower" => &[include_str!("help/steps.txt"), UNIT, OPTIONS, EXIT],
         "schedule" => &[include_str!("help/schedule.txt"), UNIT, OPTIONS, EXIT],
         "search" => &[include_str!("help/search.txt"), OPTIONS, EXIT],
+        "summary" => &[include_str!("help/summary.txt"), EXIT],
         _ => return None,
     };
     Some(parts.concat())
@@ -33,8 +34,8 @@ mod tests {
     use super::*;
     use crate::arguments;
 
-    const COMMANDS: [&str; 8] = [
-        "board", "rows", "get", "set", "raise", "lower", "schedule", "search",
+    const COMMANDS: [&str; 9] = [
+        "board", "rows", "get", "set", "raise", "lower", "schedule", "search", "summary",
     ];
 
     /// But for the file of boards, which is not there to be read.

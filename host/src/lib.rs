@@ -1,5 +1,5 @@
-//! The board on a UDP socket and its command line client. Packets, records and listings are the proved libraries' work; this crate has
-//! the sockets, the arguments and the names and readings of the rows.
+//! The board on a UDP socket and its command line client. Packets, records, listings and captures are the proved libraries' work; this
+//! crate has the sockets, the files, the arguments and the names and readings of the rows.
 
 pub mod answer;
 pub mod arguments;
@@ -30,5 +30,6 @@ pub mod request;
 pub mod rows;
 pub mod server;
 pub mod signals;
+pub mod summary;
 pub mod target;
 pub mod values;

@@ -30,7 +30,7 @@ impl Options {
                 options.words.extend(arguments.cloned());
                 break;
             }
-            if !argument.starts_with('-') {
+            if !argument.starts_with('-') || argument == "-" {
                 options.words.push(argument.clone());
                 continue;
             }
@@ -102,8 +102,8 @@ mod tests {
 
     #[test]
     fn options_and_words_may_be_mixed() {
-        let options = parsed("a --id=x=y -d b=c -t -1").expect("these are options");
-        assert_eq!(options.words(), ["a", "b=c"]);
+        let options = parsed("a --id=x=y -d b=c - -t -1").expect("these are options");
+        assert_eq!(options.words(), ["a", "b=c", "-"]);
         assert_eq!(options.needed("--id"), Ok("x=y"));
         assert_eq!(options.value("-t"), Ok(Some("-1")));
         assert!(options.has("-d") && !options.has("-t"));

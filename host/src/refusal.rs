@@ -31,6 +31,11 @@ impl Refusal {
                 "a function outside 1 to 5, a low byte above FB, or a value of no or over 255 bytes"
             }
             43 => "request would exceed 256 bytes",
+            50 => "does not begin with VLG",
+            51 => "version is not 1, or is cut short",
+            52 => "not 1 to 16 boards with an ID of 16 bytes each",
+            53 => "a record is cut short, or its index, direction or length is outside its range",
+            54 => "buffer shorter than the capture",
             70 => "the record is not one that a board can have",
             _ => "unknown number",
         }

@@ -1,8 +1,10 @@
 //! The linked libraries answer the call list of crates/replay as its stored output says: the exported functions are proved, how C and
 //! Rust call them is not.
 //!
-//! Passed over are `record` and `poke`, which only the replay program has, a board's calls from a poke to the next set-up, and buffers
-//! under 256 bytes, which this crate never lends.
+//! Passed over are `record` and `poke`, which only the replay program has, a board's calls from a poke to the next set-up, and a packet's
+//! buffers under 256 bytes, which this crate never lends.
+
+mod capture_calls;
 
 use std::fs;
 use std::path::Path;
@@ -26,6 +28,11 @@ impl Session {
             }
             ["read", id, password, packet] => Some(read(id, password, packet)),
             ["list", packet] => Some(list(packet)),
+            ["capread", capture] => Some(capture_calls::read(&bytes(capture))),
+            ["capwrite", room, ids, ref records @ ..] => {
+                Some(capture_calls::write(room, ids, records))
+            }
+            ["summary", capture] => Some(capture_calls::summarize(&bytes(capture))),
             ["poke", ..] => {
                 self.0 = None;
                 None

@@ -20,7 +20,7 @@ pub const ID: &str = "002D6E1B34565815";
 pub const ZERO_ID: &str = "00000000000000000000000000000000";
 pub const PASSWORD: &str = "1111";
 
-const PROGRAM: &str = env!("CARGO_BIN_EXE_udgornwy");
+pub const PROGRAM: &str = env!("CARGO_BIN_EXE_udgornwy");
 
 extern "C" {
     fn kill(process: i32, signal: i32) -> i32;
