@@ -145,9 +145,9 @@ mod tests {
     const HEAD: &[u8] = b"VLG\x01\x00\x010123456789ABCDEF";
 
     /// Answers one read after another, and none after the last.
-    struct Answers(VecDeque<io::Result<&'static [u8]>>);
+    struct Answers<'a>(VecDeque<io::Result<&'a [u8]>>);
 
-    impl Read for Answers {
+    impl Read for Answers<'_> {
         fn read(&mut self, room: &mut [u8]) -> io::Result<usize> {
             let answer = self.0.pop_front().expect("no read after the end")?;
             room[..answer.len()].copy_from_slice(answer);
@@ -155,7 +155,7 @@ mod tests {
         }
     }
 
-    fn counted<const N: usize>(answers: [io::Result<&'static [u8]>; N]) -> io::Result<String> {
+    fn counted<const N: usize>(answers: [io::Result<&[u8]>; N]) -> io::Result<String> {
         let counted = count(Answers(answers.into()), 0)?;
         let text = counted.text().expect("a text that fits");
         Ok(String::from_utf8(text).expect("text"))
@@ -181,6 +181,17 @@ mod tests {
         }
         let empty = counted([Ok(b"")]);
         assert_eq!(empty.expect("no failed read"), "refused,50\n");
+    }
+
+    #[test]
+    fn the_longest_head_is_read_to_its_end() {
+        let mut head = b"VLG\x01\x00\x10".to_vec();
+        head.resize(LONGEST_HEAD, 0);
+        let (start, last) = head.split_at(head.len() - 1);
+        let whole = counted([Ok(start), Ok(last), Ok(b"")]);
+        assert_eq!(whole.expect("no failed read"), "");
+        let cut = counted([Ok(start), Ok(b"")]);
+        assert_eq!(cut.expect("no failed read"), "refused,52\n");
     }
 
     #[test]

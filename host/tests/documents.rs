@@ -3,13 +3,6 @@
 mod common;
 
 use common::*;
-use std::fs;
-use std::path::Path;
-
-fn document(name: &str) -> String {
-    let path = Path::new(env!("CARGO_MANIFEST_DIR")).join("..").join(name);
-    fs::read_to_string(path).expect("a document")
-}
 
 /// The words of each command in a document.
 fn commands(text: &str) -> Vec<Vec<&str>> {

@@ -1,5 +1,5 @@
-//! The summary of a capture, from a file and from standard input. Captures bear passwords: what is kept here is its owner's alone to read,
-//! and is removed.
+//! The summary of a capture, from a file and from standard input. Captures bear passwords: only the owner can read what is kept here,
+//! and it is removed.
 
 mod common;
 
@@ -10,18 +10,9 @@ use std::os::unix::fs::OpenOptionsExt;
 use std::path::{Path, PathBuf};
 use std::process::{Child, ChildStdin, Command, Output, Stdio};
 
-fn repository() -> PathBuf {
-    Path::new(env!("CARGO_MANIFEST_DIR")).join("..")
-}
-
-fn document(name: &str) -> String {
-    let text = fs::read_to_string(repository().join("docs").join(name));
-    text.expect("a document")
-}
-
 /// The indented lines that follow a sentence in the protocol.
 fn shown_after(sentence: &str) -> String {
-    let protocol = document("PROTOCOL.md");
+    let protocol = document("docs/PROTOCOL.md");
     let (_, after) = protocol.split_once(sentence).expect("the sentence");
     let lines = after
         .lines()
@@ -88,7 +79,7 @@ fn summarize(name: &str, capture: &[u8]) -> Output {
     let output = kept.summarize();
     let same = end(start_on(PROGRAM, &["summary", "-"], kept.open()));
     assert_eq!(same, output);
-    let proved = repository().join("target/bin/summary");
+    let proved = stored("target/bin/summary");
     if proved.is_file() {
         let proved = end(start_on(proved, &[], kept.open()));
         assert_eq!(shown(&proved), shown(&output));
@@ -117,7 +108,7 @@ fn the_protocols_example_has_its_summary() {
     let cut = summarize("example-cut", &capture[..capture.len() - 1]);
     let text = shown_after("And without its last byte:");
     refused(&cut, &text, "refused 53 (a record is cut short");
-    let page = document("CLIENT.md").replace("\n    ", "\n");
+    let page = document("docs/CLIENT.md").replace("\n    ", "\n");
     assert!(page.contains(&(shown(&cut) + &errors(&cut))));
 }
 

@@ -3,14 +3,14 @@
 use super::{accepted, length_of, written, Reply, ID_SIZE, LONGEST_PACKET};
 use crate::refusal::Refusal;
 
-/// The most boards of a capture.
-const BOARDS: usize = 16;
+/// Of a capture.
+const MOST_BOARDS: usize = 16;
 /// The numbers that a packet is judged with, 0 to 10, have so many counts for each board.
 const NUMBERS: usize = 11;
-pub const COUNTS: usize = BOARDS * NUMBERS;
+pub const COUNTS: usize = MOST_BOARDS * NUMBERS;
 
 /// Mark, version, board count and the IDs of all boards.
-pub const LONGEST_HEAD: usize = 6 + BOARDS * ID_SIZE;
+pub const LONGEST_HEAD: usize = 6 + MOST_BOARDS * ID_SIZE;
 /// Index, direction, counter, length and the packet.
 pub const LONGEST_RECORD: usize = 8 + LONGEST_PACKET;
 /// A line for each count, and that of a refusal.
@@ -117,7 +117,7 @@ extern "C" {
     ) -> Reply;
 }
 
-/// The head of a capture, of which it takes up to `LONGEST_HEAD` bytes.
+/// The head of a capture, whose first `LONGEST_HEAD` bytes are enough.
 pub fn open_capture(capture: &[u8]) -> Result<Head, Refusal> {
     // SAFETY: the slice is live.
     let opened = unsafe { udgornwy_open_capture(capture.as_ptr(), capture.len()) };
@@ -204,8 +204,8 @@ pub fn write_capture(buffer: &mut [u8], ids: &[u8], records: &[Record]) -> Resul
     length(&reply)
 }
 
-/// Counts the records that stand in a window from `start` to `end`, moves the bytes that are left, the start of a record, to the window's
-/// start, and says how many they are. Refusal 53: a field outside its range; what stands before it is counted.
+/// Counts the records that stand in a window from `start` to `end`, moves the bytes that are left to its start, and says how many
+/// they are: the start of a record. Refusal 53: a field outside its range; what stands before it is counted.
 pub fn count_window(
     counts: &mut [u64],
     window: &mut [u8],
@@ -252,4 +252,17 @@ fn of_each<'a, T>(records: &[Record<'a>], part: impl Fn(&Record<'a>) -> T) -> Ve
 
 fn length(reply: &Reply) -> Result<usize, Refusal> {
     accepted(reply.refusal).map(|()| reply.length)
+}
+
+#[cfg(test)]
+mod tests {
+    use super::*;
+
+    #[test]
+    fn the_text_of_the_greatest_counts_fits() {
+        let text = show_counts(&[u64::MAX; COUNTS], Some(Refusal(53)));
+        let text = String::from_utf8(text.expect("a text that fits")).expect("text");
+        assert_eq!(text.lines().count(), COUNTS + 1);
+        assert!(text.ends_with(&format!("15,10,{}\nrefused,53\n", u64::MAX)));
+    }
 }

@@ -165,6 +165,16 @@ pub fn failed(output: &Output, status: i32, reason: &str) {
     assert!(output.stdout.is_empty());
 }
 
+/// A file of the repository.
+pub fn stored(name: &str) -> PathBuf {
+    let host = Path::new(env!("CARGO_MANIFEST_DIR"));
+    host.join("..").join(name)
+}
+
+pub fn document(name: &str) -> String {
+    std::fs::read_to_string(stored(name)).expect("a document")
+}
+
 /// Where a test keeps a file; what an earlier run left there is gone.
 pub fn scratch(name: &str) -> PathBuf {
     let path = Path::new(env!("CARGO_TARGET_TMPDIR")).join(name);
