@@ -4,9 +4,8 @@ use mathlib.Core.List.{List}
 use mathlib.Core.Option.{Option}
 use mathlib.Core.Path.{_≡_}
 use Rattle.framing.specs.Refusal.{firstRefusal}
-use Rattle.octets.specs.Octets.{overwrite}
 use Rattle.captures.specs.Form.{recordBytes, headBytes}
-use Rattle.captures.specs.Reading.{Reading, recordsOf}
+use Rattle.captures.specs.Reading.{read}
 use Rattle.captures.specs.Writing.{writtenAs, bufferAs, HeadCall, headCallRefusals, RecordCall, recordCallRefusals, WriteCall, writeRefusal, bytesGiven}
 use Rattle.captures.specs.declared.reading.NextRecord.{NextRecord}
 use Rattle.captures.specs.declared.reading.NextRecord.the-variants as next
@@ -14,7 +13,7 @@ use Rattle.captures.specs.declared.reading.Opened.{Opened}
 use Rattle.captures.specs.declared.reading.Opened.the-variants as opened
 use Rattle.captures.specs.declared.writing.Written.{Written}
 use Rattle.captures.specs.declared.writing.Written.the-variants as written
-use Rattle.counts.specs.Counting.{counted, endOf, leftOf}
+use Rattle.counts.specs.Counting.{endOf, windowPart, CountsWindow}
 use Rattle.counts.specs.declared.counting.Ending.{Ending}
 use Rattle.counts.specs.declared.counting.Ending.the-variants as ending
 use Rattle.firmware.specs.Reply.{replyWith}
@@ -63,8 +62,11 @@ abbrev pub endingReply : Ending → Reply
 endingReply (ending.Left size) = replyWith 0 size
 endingReply ending.Wrong = replyWith 53 0
 
--- the contract of `udgornwy_count_window`: what is read is counted, and the bytes that are left stand at the window's start
-pub record CountsInNumbers (reading : Reading) (window before : List ℕ) (reply : Reply) (after moved : List ℕ) : Type 0 where
-  pub answered : reply ≡ endingReply (endOf reading)
-  pub counts : after ≡ counted before (recordsOf reading)
-  pub kept : moved ≡ overwrite window 0 (leftOf reading)
+-- how the records of a part of a window end
+abbrev pub windowEnd : ℕ → ℕ → ℕ → List ℕ → Ending
+windowEnd boards start end window = endOf (read boards (windowPart start end window))
+
+-- the contract of `udgornwy_count_window`: counts and window as `count_window` leaves them, so that WindowsSum is of this call too
+pub record CountsInNumbers (boards start end : ℕ) (window before : List ℕ) (reply : Reply) (after moved : List ℕ) : Type 0 where
+  pub answered : reply ≡ endingReply (windowEnd boards start end window)
+  pub held : CountsWindow boards start end window before (windowEnd boards start end window) after moved

@@ -6,9 +6,8 @@ use captures::writing::Written;
 use counts::counting::Ending;
 ghost use mathlib.Core.Path.{_≡_};
 ghost use Rattle.captures.specs.Form.{recordOf};
-ghost use Rattle.captures.specs.Reading.{openedOf, nextRecord, read};
+ghost use Rattle.captures.specs.Reading.{openedOf, nextRecord};
 ghost use Rattle.captures.specs.Writing.{headCall, recordCall, writeCall};
-ghost use Rattle.counts.specs.Counting.{windowPart};
 ghost use Rattle.counts.specs.Text.{textOf};
 ghost use Rattle.firmware.specs.Captures.{openedInNumbers, noRecord, nextInNumbers, writtenReply, WritesHead, WritesRecord, WritesCapture, CountsInNumbers};
 ghost use Rattle.firmware.specs.Client.{ListsInNumbers};
@@ -174,7 +173,7 @@ pub extern "C" fn udgornwy_count_window(
     end: usize,
     boards: u16,
 ) -> Reply
-    ensures { λ r. ⌜ CountsInNumbers (read boards (windowPart start end (now (window .entry)))) (now (window .entry)) (now (counts .entry)) r (now (counts .exit)) (now (window .exit)) ⌝ }
+    ensures { λ r. ⌜ CountsInNumbers boards start end (now (window .entry)) (now (counts .entry)) r (now (counts .exit)) (now (window .exit)) ⌝ }
 {
     match counts::window::count_window(counts, window, start, end, boards) {
         Ending::Left(length) => Reply { refusal: 0, length },

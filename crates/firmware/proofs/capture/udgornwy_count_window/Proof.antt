@@ -3,8 +3,7 @@ use Prim.Native.Nat.{ℕ}
 use mathlib.Core.List.{List}
 use mathlib.Core.Path.{_≡_, sym, ap, _∙_}
 use borrow.Author.Needs.{needs}
-use Rattle.captures.specs.Reading.{read}
-use Rattle.counts.specs.Counting.{windowPart, CountsWindow}
+use Rattle.counts.specs.Counting.{CountsWindow}
 use Rattle.counts.specs.declared.counting.Ending.{Ending}
 use Rattle.firmware.specs.Captures.{endingReply, CountsInNumbers}
 use Rattle.firmware.proofs.capture.udgornwy_count_window.Statement.{statement}
@@ -12,13 +11,10 @@ use Rattle.firmware.proofs.capture.udgornwy_count_window.Tie as tie
 
 in-numbers :
     {boards start end : ℕ} {window before after moved : List ℕ} {answer told : Ending} → CountsWindow boards start end window before answer after moved
-    → answer ≡ told → CountsInNumbers (read boards (windowPart start end window)) window before (endingReply told) after moved
+    → answer ≡ told → CountsInNumbers boards start end window before (endingReply told) after moved
 in-numbers done same =
-    record {
-      answered = ap endingReply (sym same ∙ done .counts .answered);
-      counts = done .counts .held;
-      kept = done .kept;
-    }
+    let ended = done .counts .answered in
+    record { answered = ap endingReply (sym same ∙ ended); held = rw ended at done }
 
 count-window-requires : tie.Need-count-window-requires
 count-window-requires c κs = search needs
