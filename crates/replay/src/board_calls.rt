@@ -32,7 +32,7 @@ fn answered_at(answered: Answered, text: &mut [u8], at: usize) -> Step {
 
 // setup ID PASSWORD MODE
 pub(crate) fn set_up(step: Step, left: &[u8], text: &mut [u8]) -> Step {
-    let mut bytes = [0u8; 8192];
+    let mut bytes = [0u8; hex::MOST];
     let Two::Until { first, second } = fields::decode_two(left, &mut bytes) else {
         return calls::bad(step, text);
     };
@@ -45,7 +45,7 @@ pub(crate) fn set_up(step: Step, left: &[u8], text: &mut [u8]) -> Step {
     }
     let both = &bytes[..];
     let answered = board::set_up(
-        slices::first(both, first),
+        octets::first_bytes(both, first),
         slices::part(both, first, second),
         mode,
     );
@@ -57,34 +57,23 @@ pub(crate) fn measure(step: Step, left: &[u8], text: &mut [u8]) -> Step {
     let Number::Value(number) = fields::read_number(fields::first(left, b' ')) else {
         return calls::bad(step, text);
     };
-    let last = fields::after(left, b' ');
-    let mut bytes = [0u8; 8192];
-    let Decoded::Until(end) = hex::decode(fields::first(last, b' '), &mut bytes, 0) else {
+    let mut bytes = [0u8; hex::MOST];
+    let Decoded::Until(end) = fields::decode_last(fields::after(left, b' '), &mut bytes, 0) else {
         return calls::bad(step, text);
     };
-    if !fields::is_last(last) {
-        return calls::bad(step, text);
-    }
-    let answered = board::measure(step.board, number, slices::first(&bytes, end));
+    let answered = board::measure(step.board, number, octets::first_bytes(&bytes, end));
     answered_at(answered, text, step.at)
 }
 
 // The answer of a packet, whose response stands at the start of a lent buffer.
 fn put_answer(text: &mut [u8], at: usize, answer: Answer, buffer: &[u8]) -> usize {
     match answer {
-        Answer::Refused(number) => {
-            let end = output::put_refused(text, at, number);
-            output::put_dirty(text, end, buffer)
-        }
+        Answer::Refused(number) => output::put_refusal(text, at, number, buffer),
         Answer::Silence => {
             let end = output::put(text, at, b"silence");
             output::put_dirty(text, end, buffer)
         }
-        Answer::Response(length) => {
-            let start = output::put(text, at, b"response ");
-            let end = output::put_hex(text, start, slices::first(buffer, length));
-            output::put_dirty(text, end, slices::after(buffer, length))
-        }
+        Answer::Response(length) => output::put_written(text, at, b"response ", buffer, length),
     }
 }
 
@@ -107,18 +96,14 @@ pub(crate) fn packet(step: Step, left: &[u8], text: &mut [u8]) -> Step {
     if 1024 < length {
         return calls::bad(step, text);
     }
-    let last = fields::after(left, b' ');
-    let mut bytes = [0u8; 8192];
-    let Decoded::Until(end) = hex::decode(fields::first(last, b' '), &mut bytes, 0) else {
+    let mut bytes = [0u8; hex::MOST];
+    let Decoded::Until(end) = fields::decode_last(fields::after(left, b' '), &mut bytes, 0) else {
         return calls::bad(step, text);
     };
-    if !fields::is_last(last) {
-        return calls::bad(step, text);
-    }
     let mut buffer = [output::FILLER; 1024];
     step_packet(
         step,
-        slices::first(&bytes, end),
+        octets::first_bytes(&bytes, end),
         &mut buffer[0..length],
         text,
     )

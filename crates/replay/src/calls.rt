@@ -1,5 +1,6 @@
 // The call of a line.
 use crate::board_calls;
+use crate::capture_calls;
 use crate::output;
 use crate::record_calls;
 use crate::slices;
@@ -56,6 +57,19 @@ fn inspect(board: Board, name: &[u8], left: &[u8], text: &mut [u8], at: usize) -
     if octets::equal(name, b"list") {
         return tool_calls::list(left, text, at);
     }
+    call_on_capture(name, left, text, at)
+}
+
+fn call_on_capture(name: &[u8], left: &[u8], text: &mut [u8], at: usize) -> usize {
+    if octets::equal(name, b"capread") {
+        return capture_calls::read(left, text, at);
+    }
+    if octets::equal(name, b"capwrite") {
+        return capture_calls::write(left, text, at);
+    }
+    if octets::equal(name, b"summary") {
+        return capture_calls::summary(left, text, at);
+    }
     output::put_bad(text, at)
 }
 
@@ -75,8 +89,8 @@ pub(crate) fn answer(step: Step, line: &[u8], text: &mut [u8]) -> Step {
     let end = slices::place_of(line, 0, b' ');
     let done = call(
         step,
-        slices::first(line, end),
-        slices::after(line, end),
+        octets::first_bytes(line, end),
+        octets::bytes_after(line, end),
         text,
     );
     let board = done.board;

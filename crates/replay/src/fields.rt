@@ -2,9 +2,13 @@
 use crate::hex;
 use crate::hex::Byte;
 use crate::hex::Decoded;
+use crate::lines;
 use crate::slices;
 ghost use Prim.Native.Nat.{_+_, _-_, _≤_};
 ghost use lib.ListN.{length};
+
+// A line has so many commands or records at most: each has eight characters at least, with the space before it.
+pub(crate) const MOST: usize = lines::LONGEST / 8;
 
 pub(crate) enum Decimal {
     Value(usize),
@@ -13,6 +17,12 @@ pub(crate) enum Decimal {
 
 pub(crate) enum Number {
     Value(u16),
+    Bad,
+}
+
+pub(crate) enum Items {
+    // So many commands or records, with so many bytes of values or packets.
+    Read { count: usize, size: usize },
     Bad,
 }
 
@@ -38,7 +48,12 @@ pub(crate) fn after(left: &[u8], separator: u8) -> &[u8]
     &left[end..]
 }
 
-// A decimal number up to 9999, without a leading zero.
+// The next field with the separator before it: what its own parts are left in.
+pub(crate) fn with_separator(left: &[u8], separator: u8) -> &[u8] {
+    octets::first_bytes(left, slices::place_of(left, 1, separator))
+}
+
+// A decimal number up to 4294967295, without a leading zero.
 pub(crate) fn read_decimal(field: &[u8]) -> Decimal {
     if field.len() == 0 {
         return Decimal::Bad;
@@ -61,7 +76,7 @@ fn digits(field: &[u8]) -> Decimal {
             return Decimal::Bad;
         }
         value = 10 * value + octets::to_usize(digit);
-        if 9999 < value {
+        if 4294967295 < value {
             return Decimal::Bad;
         }
         i += 1;
@@ -80,6 +95,17 @@ pub(crate) fn read_byte(field: &[u8]) -> Byte {
     Byte::Value(value as u8)
 }
 
+// A decimal number up to 65535.
+pub(crate) fn read_index(field: &[u8]) -> Number {
+    let Decimal::Value(value) = read_decimal(field) else {
+        return Number::Bad;
+    };
+    if 65535 < value {
+        return Number::Bad;
+    }
+    Number::Value(value as u16)
+}
+
 fn joined(high: u8, low: u8) -> u16 {
     (high as u16) * 256 + (low as u16)
 }
@@ -94,6 +120,14 @@ pub(crate) fn read_number(field: &[u8]) -> Number {
         return Number::Bad;
     };
     Number::Value(joined(octets::byte_at(&bytes, 0), octets::byte_at(&bytes, 1)))
+}
+
+// Puts the bytes of the last field into `bytes` from `at` on.
+pub(crate) fn decode_last(left: &[u8], bytes: &mut [u8], at: usize) -> Decoded {
+    if !is_last(left) {
+        return Decoded::Bad;
+    }
+    hex::decode(first(left, b' '), bytes, at)
 }
 
 // Puts the bytes of the next two fields one after the other into `bytes`.

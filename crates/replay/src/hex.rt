@@ -1,5 +1,8 @@
 // Bytes as a call list shows them: pairs of uppercase digits, or `-` for none.
-use crate::slices;
+use crate::lines;
+
+// A line has digits of so many bytes at most.
+pub(crate) const MOST: usize = lines::LONGEST / 2;
 
 pub(crate) enum Byte {
     Value(u8),
@@ -59,6 +62,11 @@ pub(crate) fn decode(field: &[u8], bytes: &mut [u8], at: usize) -> Decoded {
     if octets::equal(field, b"-") {
         return Decoded::Until(at);
     }
+    decode_some(field, bytes, at)
+}
+
+// The same of a field that stands for one byte at least.
+pub(crate) fn decode_some(field: &[u8], bytes: &mut [u8], at: usize) -> Decoded {
     if field.len() == 0 {
         return Decoded::Bad;
     }

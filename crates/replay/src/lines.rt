@@ -6,6 +6,9 @@ use crate::slices;
 use libc::STDIN_FILENO;
 use model::Board;
 
+// The most characters of a line.
+pub(crate) const LONGEST: usize = 65536;
+
 // The first `held` bytes of the input belong to a line whose end has not come yet.
 struct State {
     board: Board,
@@ -33,7 +36,7 @@ fn answer_lines(board: Board, lines: &[u8], text: &mut [u8]) -> AnsweredLines {
                 left: end,
             };
         }
-        step = calls::answer(step, slices::first(left, end), text);
+        step = calls::answer(step, octets::first_bytes(left, end), text);
         let after = end + 1;
         let rest = &left[after..];
         left = rest;
@@ -73,7 +76,7 @@ fn keep(input: &mut [u8], left: usize) -> usize {
 
 // Answers the lines that end within the first `filled` bytes.
 fn advance(board: Board, input: &mut [u8], filled: usize, text: &mut [u8], open: bool) -> State {
-    let ran = answer_lines(board, slices::first(input, filled), text);
+    let ran = answer_lines(board, octets::first_bytes(input, filled), text);
     let left = ran.left;
     move_to_start(input, filled, left);
     let held = keep(input, left);

@@ -1,6 +1,8 @@
 // Replays a list of calls from standard input on one board, and writes a line for each to standard output.
 mod board_calls;
 mod calls;
+mod capture_calls;
+mod capture_lists;
 mod fields;
 mod hex;
 mod lines;
@@ -11,8 +13,8 @@ mod slices;
 mod tool_calls;
 
 fn main() {
-    // Room for a line and its end: a line has up to 16,383 characters.
-    let mut input = [0u8; 16384];
-    let mut text = [0u8; 65536];
+    // Room for a line and its end.
+    let mut input = [0u8; lines::LONGEST + 1];
+    let mut text = [0u8; 2 * output::LONGEST];
     lines::replay(&mut input, &mut text);
 }

@@ -1,10 +1,11 @@
 // The text of the answers. Each function puts its text into `text` from `at` on and says where it ends; what has no room is
 // dropped, and `ready` sees to it that the longest answer has room.
-use crate::slices;
+use crate::lines;
 use libc::STDOUT_FILENO;
 
-// No answer is longer.
-const LONGEST: usize = 4096;
+// No answer is longer: a record of a capture, the shortest field of a line for what it gives, is written with eight characters and
+// shown with sixteen.
+pub(crate) const LONGEST: usize = 2 * lines::LONGEST;
 
 // What each byte of a lent buffer is before the call.
 pub(crate) const FILLER: u8 = 0xA5;
@@ -72,10 +73,12 @@ pub(crate) fn put_field(text: &mut [u8], at: usize, bytes: &[u8]) -> usize {
     put_hex(text, at, bytes)
 }
 
-pub(crate) fn put_decimal(text: &mut [u8], at: usize, number: u8) -> usize {
+// A mark, and a number in decimal behind it.
+pub(crate) fn put_decimal(text: &mut [u8], at: usize, mark: &[u8], number: u64) -> usize {
+    let start = put(text, at, mark);
     let mut digits = [0u8; 20];
-    let count = io::decimal(number as u64, &mut digits);
-    put(text, at, &digits[..count])
+    let count = io::decimal(number, &mut digits);
+    put(text, start, &digits[..count])
 }
 
 // A parameter number, before its value.
@@ -98,23 +101,22 @@ pub(crate) fn put_unknown(text: &mut [u8], at: usize, page: u8, low: u8) -> usiz
 }
 
 pub(crate) fn put_refused(text: &mut [u8], at: usize, number: u8) -> usize {
-    let end = put(text, at, b"refused ");
-    put_decimal(text, end, number)
+    put_decimal(text, at, b"refused ", number as u64)
 }
 
 pub(crate) fn put_bad(text: &mut [u8], at: usize) -> usize {
     put(text, at, b"bad line")
 }
 
-// The lines of a text, joined by vertical bars; its last byte, the last line's end, is left out.
+// The lines of a text, joined by vertical bars, or `-` for no line; its last byte, the last line's end, is left out.
 pub(crate) fn put_joined(text: &mut [u8], at: usize, lines: &[u8]) -> usize {
     if lines.len() == 0 {
-        return at;
+        return put(text, at, b"-");
     }
     put_each(
         text,
         at,
-        slices::first(lines, lines.len() - 1),
+        octets::first_bytes(lines, lines.len() - 1),
         Style::Joined,
     )
 }
@@ -126,18 +128,47 @@ fn joining(character: u8) -> u8 {
     character
 }
 
-// A mark where a call changed a buffer of up to 1,024 bytes outside the length it gave back.
+// Whether the first byte is the filler, and each one the same as the byte after it.
+fn is_clean(bytes: &[u8]) -> bool {
+    if bytes.len() == 0 {
+        return true;
+    }
+    if bytes[0] != FILLER {
+        return false;
+    }
+    octets::equal(&bytes[1..], octets::first_bytes(bytes, bytes.len() - 1))
+}
+
+// A mark where a call changed a buffer outside the length it gave back.
 pub(crate) fn put_dirty(text: &mut [u8], at: usize, rest: &[u8]) -> usize {
-    let clean = [FILLER; 1024];
-    if octets::equal(rest, slices::first(&clean, rest.len())) {
+    if is_clean(rest) {
         return at;
     }
     put(text, at, b" dirty")
 }
 
+// The refusal of a call to which a buffer was lent.
+pub(crate) fn put_refusal(text: &mut [u8], at: usize, number: u8, buffer: &[u8]) -> usize {
+    let end = put_refused(text, at, number);
+    put_dirty(text, end, buffer)
+}
+
+// What a call wrote into the first bytes of a lent buffer, behind its name.
+pub(crate) fn put_written(
+    text: &mut [u8],
+    at: usize,
+    name: &[u8],
+    buffer: &[u8],
+    length: usize,
+) -> usize {
+    let start = put(text, at, name);
+    let end = put_hex(text, start, octets::first_bytes(buffer, length));
+    put_dirty(text, end, octets::bytes_after(buffer, length))
+}
+
 // Writes out what was put into `text`.
 pub(crate) fn flush(text: &[u8], at: usize) {
-    io::write_all(STDOUT_FILENO, slices::first(text, at));
+    io::write_all(STDOUT_FILENO, octets::first_bytes(text, at));
 }
 
 // Where the next answer goes, once there is room for it.

@@ -55,9 +55,12 @@ fn put_identity(text: &mut [u8], at: usize, board: Board) -> usize {
     let before_id = output::put(text, at, b"record id=");
     let after_id = output::put_field(text, before_id, &id);
     let before_password = output::put(text, after_id, b" password=");
-    let after_password = output::put_field(text, before_password, slices::first(&password, size));
-    let before_mode = output::put(text, after_password, b" mode=");
-    output::put_decimal(text, before_mode, board.mode)
+    let after_password = output::put_field(
+        text,
+        before_password,
+        octets::first_bytes(&password, size),
+    );
+    output::put_decimal(text, after_password, b" mode=", board.mode as u64)
 }
 
 // record
@@ -74,7 +77,7 @@ pub(crate) fn show(board: Board, left: &[u8], text: &mut [u8], at: usize) -> usi
 
 fn with_id(board: Board, value: &[u8]) -> Board {
     let mut id = [0u8; framing::ID_SIZE];
-    octets::overwrite(&mut id, 0, slices::first(value, framing::ID_SIZE));
+    octets::overwrite(&mut id, 0, octets::first_bytes(value, framing::ID_SIZE));
     let mut next = board;
     next.id = id;
     next
@@ -82,11 +85,11 @@ fn with_id(board: Board, value: &[u8]) -> Board {
 
 fn with_password(board: Board, value: &[u8]) -> Board {
     let mut password = [0u8; framing::LONGEST_PASSWORD];
-    let kept = slices::first(value, framing::LONGEST_PASSWORD);
+    let kept = octets::first_bytes(value, framing::LONGEST_PASSWORD);
     octets::overwrite(&mut password, 0, kept);
     let mut next = board;
     next.password = password;
-    next.size = slices::narrow(kept.len());
+    next.size = slices::narrow_u8(kept.len());
     next
 }
 
@@ -107,7 +110,7 @@ fn places() -> [u8; store::BYTES] {
     let mut bytes = [0u8; store::BYTES];
     let mut place: usize = 0;
     while place < store::BYTES {
-        bytes[place] = slices::narrow(place);
+        bytes[place] = slices::narrow_u8(place);
         place += 1;
     }
     bytes
@@ -123,8 +126,8 @@ fn is_text(number: u16) -> bool {
 // Writes a value into the slot of `size` bytes at `place`, cut or filled up with 0; a text has its length in the byte before.
 fn write_slot(bytes: &mut [u8], place: usize, size: usize, value: &[u8], text: bool) {
     let zeros = [0u8; store::BYTES];
-    let kept = slices::first(value, size);
-    octets::overwrite(bytes, place, slices::first(&zeros, size));
+    let kept = octets::first_bytes(value, size);
+    octets::overwrite(bytes, place, octets::first_bytes(&zeros, size));
     octets::overwrite(bytes, place, kept);
     if !text {
         return;
@@ -132,7 +135,7 @@ fn write_slot(bytes: &mut [u8], place: usize, size: usize, value: &[u8], text: b
     if place == 0 {
         return;
     }
-    let length = [slices::narrow(kept.len())];
+    let length = [slices::narrow_u8(kept.len())];
     octets::overwrite(bytes, place - 1, &length);
 }
 
@@ -208,9 +211,9 @@ pub(crate) fn poke(step: Step, left: &[u8], text: &mut [u8]) -> Step {
     if octets::equal(name, b"mode") {
         return poke_mode(step, field, text);
     }
-    let mut bytes = [0u8; 8192];
+    let mut bytes = [0u8; hex::MOST];
     let Decoded::Until(end) = hex::decode(field, &mut bytes, 0) else {
         return calls::bad(step, text);
     };
-    poke_bytes(step, name, slices::first(&bytes, end), text)
+    poke_bytes(step, name, octets::first_bytes(&bytes, end), text)
 }

@@ -1,7 +1,6 @@
 // The entries of the weekly schedule, as `record` shows and `poke` names them: 0077:D.P for day D and period P.
 use crate::hex;
 use crate::output;
-use crate::slices;
 use schedule::Entry;
 use schedule::Schedule;
 use store::WholeDegrees;
@@ -16,12 +15,10 @@ pub(crate) fn put(text: &mut [u8], at: usize, schedule: Schedule, index: u16) ->
     let day = (index / 4 % 7 + 1) as u8;
     let period = (index % 4 + 1) as u8;
     let reported = schedule::report(schedule, day, period);
-    let after_number = output::put(text, at, b" 0077:");
-    let after_day = output::put_decimal(text, after_number, day);
-    let before_period = output::put(text, after_day, b".");
-    let after_period = output::put_decimal(text, before_period, period);
+    let after_day = output::put_decimal(text, at, b" 0077:", day as u64);
+    let after_period = output::put_decimal(text, after_day, b".", period as u64);
     let before_value = output::put(text, after_period, b"=");
-    output::put_hex(text, before_value, slices::after(&reported, 2))
+    output::put_hex(text, before_value, octets::bytes_after(&reported, 2))
 }
 
 // The index of the entry that a name stands for.

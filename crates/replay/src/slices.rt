@@ -13,24 +13,19 @@ pub(crate) fn part(bytes: &[u8], from: usize, until: usize) -> &[u8] {
     &bytes[from..until]
 }
 
-// The first bytes, or all where there are fewer.
-pub(crate) fn first(bytes: &[u8], count: usize) -> &[u8] {
-    if bytes.len() < count {
-        return bytes;
-    }
-    part(bytes, 0, count)
-}
-
-// What stands after them.
-pub(crate) fn after(bytes: &[u8], count: usize) -> &[u8] {
-    part(bytes, count, bytes.len())
-}
-
+// The first numbers, or all where there are fewer.
 pub(crate) fn first_numbers(numbers: &[u16], count: usize) -> &[u16] {
     if numbers.len() < count {
         return numbers;
     }
     &numbers[0..count]
+}
+
+pub(crate) fn first_counters(counters: &[u32], count: usize) -> &[u32] {
+    if counters.len() < count {
+        return counters;
+    }
+    &counters[0..count]
 }
 
 // The first place from `from` on that holds a byte, or the end.
@@ -47,16 +42,37 @@ pub(crate) fn place_of(bytes: &[u8], from: usize, wanted: u8) -> usize
     bytes.len()
 }
 
-pub(crate) fn narrow(number: usize) -> u8 {
+// Puts a number at a place, where there is one.
+pub(crate) fn put_number(numbers: &mut [u16], at: usize, number: u16) {
+    if at < numbers.len() {
+        numbers[at] = number;
+    }
+}
+
+pub(crate) fn put_counter(counters: &mut [u32], at: usize, counter: u32) {
+    if at < counters.len() {
+        counters[at] = counter;
+    }
+}
+
+// The number, or the greatest that fits.
+pub(crate) fn narrow_u8(number: usize) -> u8 {
     if number < 256 {
         return number as u8;
     }
     255
 }
 
-pub(crate) fn narrow_length(length: usize) -> u16 {
-    if length < 65536 {
-        return length as u16;
+pub(crate) fn narrow_u16(number: usize) -> u16 {
+    if number < 65536 {
+        return number as u16;
     }
     65535
+}
+
+pub(crate) fn narrow_u32(number: usize) -> u32 {
+    if number < 4294967296 {
+        return number as u32;
+    }
+    4294967295
 }

@@ -1,6 +1,7 @@
 // The calls of the tool: write, read, list.
 use crate::fields;
 use crate::fields::Decimal;
+use crate::fields::Items;
 use crate::fields::Number;
 use crate::fields::Two;
 use crate::hex;
@@ -24,38 +25,26 @@ enum Command {
     Bad,
 }
 
-enum Commands {
-    // So many commands, with so many bytes of values.
-    Read { count: usize, size: usize },
-    Bad,
-}
-
 // Reads F:NNNN:VALUE, and puts the value into `values` from `at` on.
 fn read_command(command: &[u8], values: &mut [u8], at: usize) -> Command {
     let colon = slices::place_of(command, 0, b':');
-    let Byte::Value(function) = fields::read_byte(slices::first(command, colon)) else {
+    let Byte::Value(function) = fields::read_byte(octets::first_bytes(command, colon)) else {
         return Command::Bad;
     };
-    let left = slices::after(command, colon);
+    let left = octets::bytes_after(command, colon);
     let Number::Value(number) = fields::read_number(fields::first(left, b':')) else {
         return Command::Bad;
     };
     let last = fields::after(left, b':');
-    let value = slices::after(last, 1);
+    let value = octets::bytes_after(last, 1);
     let Decoded::Until(end) = hex::decode(value, values, at) else {
         return Command::Bad;
     };
     Command::Read {
         function,
         number,
-        length: slices::narrow_length(hex::size(value)),
+        length: slices::narrow_u16(hex::size(value)),
         end,
-    }
-}
-
-fn put_number(numbers: &mut [u16], at: usize, number: u16) {
-    if at < numbers.len() {
-        numbers[at] = number;
     }
 }
 
@@ -66,7 +55,7 @@ fn read_commands(
     numbers: &mut [u16],
     lengths: &mut [u16],
     values: &mut [u8],
-) -> Commands {
+) -> Items {
     let mut left = list;
     let mut count: usize = 0;
     let mut size: usize = 0;
@@ -78,34 +67,27 @@ fn read_commands(
             end,
         } = read_command(fields::first(left, b' '), values, size)
         else {
-            return Commands::Bad;
+            return Items::Bad;
         };
         if functions.len() <= count {
-            return Commands::Bad;
+            return Items::Bad;
         }
         functions[count] = next_function;
-        put_number(numbers, count, number);
-        put_number(lengths, count, length);
+        slices::put_number(numbers, count, number);
+        slices::put_number(lengths, count, length);
         count += 1;
         size = end;
         let rest = fields::after(left, b' ');
         left = rest;
     }
-    Commands::Read { count, size }
+    Items::Read { count, size }
 }
 
 // The answer of a write, whose packet stands at the start of a lent buffer.
 fn put_written(text: &mut [u8], at: usize, written: Written, buffer: &[u8]) -> usize {
     match written {
-        Written::Refused(number) => {
-            let end = output::put_refused(text, at, number);
-            output::put_dirty(text, end, buffer)
-        }
-        Written::Length(length) => {
-            let start = output::put(text, at, b"packet ");
-            let end = output::put_hex(text, start, slices::first(buffer, length));
-            output::put_dirty(text, end, slices::after(buffer, length))
-        }
+        Written::Refused(number) => output::put_refusal(text, at, number, buffer),
+        Written::Length(length) => output::put_written(text, at, b"packet ", buffer, length),
     }
 }
 
@@ -118,11 +100,11 @@ fn write_list(
     password: &[u8],
     list: &[u8],
 ) -> usize {
-    let mut functions = [0u8; 2048];
-    let mut numbers = [0u16; 2048];
-    let mut lengths = [0u16; 2048];
-    let mut values = [0u8; 8192];
-    let Commands::Read { count, size } = read_commands(
+    let mut functions = [0u8; fields::MOST];
+    let mut numbers = [0u16; fields::MOST];
+    let mut lengths = [0u16; fields::MOST];
+    let mut values = [0u8; hex::MOST];
+    let Items::Read { count, size } = read_commands(
         list,
         &mut functions,
         &mut numbers,
@@ -135,10 +117,10 @@ fn write_list(
         buffer,
         id,
         password,
-        slices::first(&functions, count),
+        octets::first_bytes(&functions, count),
         slices::first_numbers(&numbers, count),
         slices::first_numbers(&lengths, count),
-        slices::first(&values, size),
+        octets::first_bytes(&values, size),
     );
     put_written(text, at, written, buffer)
 }
@@ -152,7 +134,7 @@ pub(crate) fn write(left: &[u8], text: &mut [u8], at: usize) -> usize {
         return output::put_bad(text, at);
     }
     let sender = fields::after(left, b' ');
-    let mut bytes = [0u8; 8192];
+    let mut bytes = [0u8; hex::MOST];
     let Two::Until { first, second } = fields::decode_two(sender, &mut bytes) else {
         return output::put_bad(text, at);
     };
@@ -162,7 +144,7 @@ pub(crate) fn write(left: &[u8], text: &mut [u8], at: usize) -> usize {
         text,
         at,
         &mut buffer[0..length],
-        slices::first(both, first),
+        octets::first_bytes(both, first),
         slices::part(both, first, second),
         fields::after_two(sender),
     )
@@ -213,22 +195,19 @@ fn put_response(text: &mut [u8], at: usize, response: Response, packet: &[u8]) -
 
 // read ID PASSWORD PACKET
 pub(crate) fn read(left: &[u8], text: &mut [u8], at: usize) -> usize {
-    let mut bytes = [0u8; 8192];
+    let mut bytes = [0u8; hex::MOST];
     let Two::Until { first, second } = fields::decode_two(left, &mut bytes) else {
         return output::put_bad(text, at);
     };
     let last = fields::after_two(left);
-    let Decoded::Until(end) = hex::decode(fields::first(last, b' '), &mut bytes, second) else {
+    let Decoded::Until(end) = fields::decode_last(last, &mut bytes, second) else {
         return output::put_bad(text, at);
     };
-    if !fields::is_last(last) {
-        return output::put_bad(text, at);
-    }
     let all = &bytes[..];
     let packet = slices::part(all, second, end);
     let response = tool::response::read(
         packet,
-        slices::first(all, first),
+        octets::first_bytes(all, first),
         slices::part(all, first, second),
     );
     put_response(text, at, response, packet)
@@ -236,17 +215,15 @@ pub(crate) fn read(left: &[u8], text: &mut [u8], at: usize) -> usize {
 
 // list PACKET
 pub(crate) fn list(left: &[u8], text: &mut [u8], at: usize) -> usize {
-    let mut bytes = [0u8; 8192];
-    let Decoded::Until(end) = hex::decode(fields::first(left, b' '), &mut bytes, 0) else {
+    let mut bytes = [0u8; hex::MOST];
+    let Decoded::Until(end) = fields::decode_last(left, &mut bytes, 0) else {
         return output::put_bad(text, at);
     };
-    if !fields::is_last(left) {
-        return output::put_bad(text, at);
-    }
     // The longest listing.
     let mut lines = [0u8; 1753];
-    let Listed::Length(length) = tool::listing::list(&mut lines, slices::first(&bytes, end)) else {
+    let Listed::Length(length) = tool::listing::list(&mut lines, octets::first_bytes(&bytes, end))
+    else {
         return at;
     };
-    output::put_joined(text, at, slices::first(&lines, length))
+    output::put_joined(text, at, octets::first_bytes(&lines, length))
 }

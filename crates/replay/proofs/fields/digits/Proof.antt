@@ -1,4 +1,4 @@
--- `replay::fields::digits` is safe: the value stays below 10,000.
+-- `replay::fields::digits` is safe: the value stays below 2 ^ 32.
 use Prim.Native.Nat.{_≤_, _-_}
 use lib.ListN.{length}
 use borrow.Author.Needs.{needs}
@@ -6,7 +6,7 @@ use Rattle.replay.proofs.fields.digits.Statement.{statement}
 use Rattle.replay.proofs.fields.digits.Tie as tie
 
 abbrev Inv-loop : tie.InvT-loop
-Inv-loop field value₀ i₀ value i = value ≤ 9999
+Inv-loop field value₀ i₀ value i = value ≤ 4294967295
 
 abbrev μ-loop : tie.MeasureT-loop
 μ-loop field value₀ i₀ value i = length field - i

@@ -16,8 +16,8 @@ abbrev μ-loop : tie.MeasureT-loop
 loop-holds : tie.Need-loop-holds Inv-loop μ-loop
 loop-holds c = search needs
 
-narrow-requires : tie.Need-narrow-requires Inv-loop μ-loop
-narrow-requires c κs = search needs
+narrow-u8-requires : tie.Need-narrow-u8-requires Inv-loop μ-loop
+narrow-u8-requires c κs = search needs
 
 array-write-bytes : tie.Need-array-write-bytes Inv-loop μ-loop
 array-write-bytes c = search needs
@@ -41,7 +41,7 @@ places-spec =
     Inv-loop
     μ-loop
     loop-holds
-    narrow-requires
+    narrow-u8-requires
     array-write-bytes
     add-place
     loop-less

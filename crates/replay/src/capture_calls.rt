@@ -1,0 +1,186 @@
+// The calls on captures: capread, capwrite, summary.
+use crate::capture_lists;
+use crate::fields;
+use crate::fields::Decimal;
+use crate::fields::Items;
+use crate::hex;
+use crate::hex::Decoded;
+use crate::output;
+use crate::slices;
+use captures::reading::NextRecord;
+use captures::reading::Opened;
+use captures::writing::Written;
+use counts::text::Shown;
+
+// The refusal of a capture, behind what was read of it.
+fn put_ending(text: &mut [u8], at: usize, number: u8) -> usize {
+    let start = output::put(text, at, b" ");
+    output::put_refused(text, start, number)
+}
+
+fn put_ids(text: &mut [u8], at: usize, ids: &[u8]) -> usize {
+    let mut end = at;
+    let mut left = ids;
+    while 0 < left.len() {
+        let start = output::put(text, end, b" id:");
+        end = output::put_hex(text, start, octets::first_bytes(left, framing::ID_SIZE));
+        let rest = octets::bytes_after(left, framing::ID_SIZE);
+        left = rest;
+    }
+    end
+}
+
+fn put_record(
+    text: &mut [u8],
+    at: usize,
+    index: u16,
+    direction: u8,
+    counter: u32,
+    packet: &[u8],
+) -> usize {
+    let after_index = output::put_decimal(text, at, b" rec:", index as u64);
+    let after_direction = output::put_decimal(text, after_index, b".", direction as u64);
+    let after_counter = output::put_decimal(text, after_direction, b".", counter as u64);
+    let start = output::put(text, after_counter, b".");
+    output::put_field(text, start, packet)
+}
+
+// The records of a capture of so many boards, and its refusal.
+fn put_records(text: &mut [u8], at: usize, records: &[u8], boards: u16) -> usize {
+    let mut end = at;
+    let mut left = records;
+    loop {
+        match captures::reading::next_record(left, boards) {
+            NextRecord::End => return end,
+            NextRecord::Cut => return put_ending(text, end, 53),
+            NextRecord::Wrong => return put_ending(text, end, 53),
+            NextRecord::Record {
+                index,
+                direction,
+                counter,
+                packet,
+                rest,
+            } => {
+                let bytes = block::part(left, packet, rest);
+                end = put_record(text, end, index, direction, counter, bytes);
+                let after = block::part(left, rest, 0);
+                left = after;
+            }
+        }
+    }
+}
+
+// The version of a capture whose head is refused: 0 where mark or version is.
+fn version_of_refused(number: u8) -> u16 {
+    if number < 52 {
+        return 0;
+    }
+    captures::VERSION
+}
+
+fn put_capture(text: &mut [u8], at: usize, capture: &[u8]) -> usize {
+    match captures::reading::open(capture) {
+        Opened::Refused(number) => {
+            let version = version_of_refused(number);
+            let end = output::put_decimal(text, at, b"version ", version as u64);
+            put_ending(text, end, number)
+        }
+        Opened::Capture {
+            boards,
+            ids,
+            records,
+        } => {
+            let start = output::put_decimal(text, at, b"version ", captures::VERSION as u64);
+            let end = put_ids(text, start, slices::part(capture, ids, records));
+            put_records(text, end, octets::bytes_after(capture, records), boards)
+        }
+    }
+}
+
+// capread CAPTURE
+pub(crate) fn read(left: &[u8], text: &mut [u8], at: usize) -> usize {
+    let mut bytes = [0u8; hex::MOST];
+    let Decoded::Until(end) = fields::decode_last(left, &mut bytes, 0) else {
+        return output::put_bad(text, at);
+    };
+    put_capture(text, at, octets::first_bytes(&bytes, end))
+}
+
+// The answer of a write, whose capture stands at the start of a lent buffer.
+fn put_written(text: &mut [u8], at: usize, written: Written, buffer: &[u8]) -> usize {
+    match written {
+        Written::Refused(number) => output::put_refusal(text, at, number, buffer),
+        Written::Length(length) => output::put_written(text, at, b"capture ", buffer, length),
+    }
+}
+
+// Writes the capture of these boards and of a record list into a lent buffer.
+fn write_list(text: &mut [u8], at: usize, buffer: &mut [u8], ids: &[u8], list: &[u8]) -> usize {
+    let mut indexes = [0u16; fields::MOST];
+    let mut directions = [0u8; fields::MOST];
+    let mut counters = [0u32; fields::MOST];
+    let mut lengths = [0u16; fields::MOST];
+    let mut packets = [0u8; hex::MOST];
+    let Items::Read { count, size } = capture_lists::read_records(
+        list,
+        &mut indexes,
+        &mut directions,
+        &mut counters,
+        &mut lengths,
+        &mut packets,
+    ) else {
+        return output::put_bad(text, at);
+    };
+    let written = captures::writing::write(
+        buffer,
+        ids,
+        slices::first_numbers(&indexes, count),
+        octets::first_bytes(&directions, count),
+        slices::first_counters(&counters, count),
+        slices::first_numbers(&lengths, count),
+        octets::first_bytes(&packets, size),
+    );
+    put_written(text, at, written, buffer)
+}
+
+// Makes the call with the first ROOM bytes of a lent buffer.
+fn write_within(left: &[u8], text: &mut [u8], at: usize, buffer: &mut [u8]) -> usize {
+    let Decimal::Value(room) = fields::read_decimal(fields::first(left, b' ')) else {
+        return output::put_bad(text, at);
+    };
+    if buffer.len() < room {
+        return output::put_bad(text, at);
+    }
+    let boards = fields::after(left, b' ');
+    let mut ids = [0u8; hex::MOST];
+    let Decoded::Until(end) = capture_lists::read_ids(boards, &mut ids) else {
+        return output::put_bad(text, at);
+    };
+    write_list(
+        text,
+        at,
+        &mut buffer[0..room],
+        octets::first_bytes(&ids, end),
+        fields::after(boards, b' '),
+    )
+}
+
+// capwrite ROOM IDS I.D.C.HEX ..
+pub(crate) fn write(left: &[u8], text: &mut [u8], at: usize) -> usize {
+    let mut buffer = [output::FILLER; 1048576];
+    write_within(left, text, at, &mut buffer)
+}
+
+// summary CAPTURE
+pub(crate) fn summary(left: &[u8], text: &mut [u8], at: usize) -> usize {
+    let mut bytes = [0u8; hex::MOST];
+    let Decoded::Until(end) = fields::decode_last(left, &mut bytes, 0) else {
+        return output::put_bad(text, at);
+    };
+    let mut lines = [0u8; counts::text::LONGEST_TEXT];
+    let Shown::Length(length) = counts::text::summary(&mut lines, octets::first_bytes(&bytes, end))
+    else {
+        return at;
+    };
+    output::put_joined(text, at, octets::first_bytes(&lines, length))
+}
