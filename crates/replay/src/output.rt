@@ -3,8 +3,7 @@
 use crate::lines;
 use libc::STDOUT_FILENO;
 
-// No answer is longer: a record of a capture, the shortest field of a line for what it gives, is written with eight characters and
-// shown with sixteen.
+// No answer is longer: of all fields a record of a capture grows most, from eight characters, with the space before it, to sixteen.
 pub(crate) const LONGEST: usize = 2 * lines::LONGEST;
 
 // What each byte of a lent buffer is before the call.
@@ -128,7 +127,7 @@ fn joining(character: u8) -> u8 {
     character
 }
 
-// Whether the first byte is the filler, and each one the same as the byte after it.
+// Whether each byte is the filler: the first is, and each is the same as the one after it.
 fn is_clean(bytes: &[u8]) -> bool {
     if bytes.len() == 0 {
         return true;
