@@ -7,7 +7,7 @@ use std::path::Path;
 type Uses = BTreeMap<String, BTreeSet<String>>;
 
 /// Crates of the kit, which only programs use.
-const KIT: [&str; 2] = ["io", "libc"];
+const KIT: [&str; 3] = ["io", "libc", "os"];
 
 fn file(name: &str) -> String {
     let root = Path::new(env!("CARGO_MANIFEST_DIR")).join("..");

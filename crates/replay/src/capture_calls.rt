@@ -10,7 +10,7 @@ use crate::slices;
 use captures::reading::NextRecord;
 use captures::reading::Opened;
 use captures::writing::Written;
-use counts::text::Shown;
+use tool::listing::Listed;
 
 // The refusal of a capture, behind what was read of it.
 fn put_ending(text: &mut [u8], at: usize, number: u8) -> usize {
@@ -178,7 +178,7 @@ pub(crate) fn summary(left: &[u8], text: &mut [u8], at: usize) -> usize {
         return output::put_bad(text, at);
     };
     let mut lines = [0u8; counts::text::LONGEST_TEXT];
-    let Shown::Length(length) = counts::text::summary(&mut lines, octets::first_bytes(&bytes, end))
+    let Listed::Length(length) = counts::text::summary(&mut lines, octets::first_bytes(&bytes, end))
     else {
         return at;
     };
