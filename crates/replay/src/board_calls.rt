@@ -32,7 +32,7 @@ fn answered_at(answered: Answered, text: &mut [u8], at: usize) -> Step {
 
 // setup ID PASSWORD MODE
 pub(crate) fn set_up(step: Step, left: &[u8], text: &mut [u8]) -> Step {
-    let mut bytes = [0u8; hex::MOST];
+    let mut bytes = hex::room();
     let Two::Until { first, second } = fields::decode_two(left, &mut bytes) else {
         return calls::bad(step, text);
     };
@@ -57,7 +57,7 @@ pub(crate) fn measure(step: Step, left: &[u8], text: &mut [u8]) -> Step {
     let Number::Value(number) = fields::read_number(fields::first(left, b' ')) else {
         return calls::bad(step, text);
     };
-    let mut bytes = [0u8; hex::MOST];
+    let mut bytes = hex::room();
     let Decoded::Until(end) = fields::decode_last(fields::after(left, b' '), &mut bytes, 0) else {
         return calls::bad(step, text);
     };
@@ -96,7 +96,7 @@ pub(crate) fn packet(step: Step, left: &[u8], text: &mut [u8]) -> Step {
     if 1024 < length {
         return calls::bad(step, text);
     }
-    let mut bytes = [0u8; hex::MOST];
+    let mut bytes = hex::room();
     let Decoded::Until(end) = fields::decode_last(fields::after(left, b' '), &mut bytes, 0) else {
         return calls::bad(step, text);
     };

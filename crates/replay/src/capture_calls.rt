@@ -99,7 +99,7 @@ fn put_capture(text: &mut [u8], at: usize, capture: &[u8]) -> usize {
 
 // capread CAPTURE
 pub(crate) fn read(left: &[u8], text: &mut [u8], at: usize) -> usize {
-    let mut bytes = [0u8; hex::MOST];
+    let mut bytes = hex::room();
     let Decoded::Until(end) = fields::decode_last(left, &mut bytes, 0) else {
         return output::put_bad(text, at);
     };
@@ -120,7 +120,7 @@ fn write_list(text: &mut [u8], at: usize, buffer: &mut [u8], ids: &[u8], list: &
     let mut directions = [0u8; fields::MOST];
     let mut counters = [0u32; fields::MOST];
     let mut lengths = [0u16; fields::MOST];
-    let mut packets = [0u8; hex::MOST];
+    let mut packets = hex::room();
     let Items::Read { count, size } = capture_lists::read_records(
         list,
         &mut indexes,
@@ -152,7 +152,7 @@ fn write_within(left: &[u8], text: &mut [u8], at: usize, buffer: &mut [u8]) -> u
         return output::put_bad(text, at);
     }
     let boards = fields::after(left, b' ');
-    let mut ids = [0u8; hex::MOST];
+    let mut ids = hex::room();
     let Decoded::Until(end) = capture_lists::read_ids(boards, &mut ids) else {
         return output::put_bad(text, at);
     };
@@ -173,7 +173,7 @@ pub(crate) fn write(left: &[u8], text: &mut [u8], at: usize) -> usize {
 
 // summary CAPTURE
 pub(crate) fn summary(left: &[u8], text: &mut [u8], at: usize) -> usize {
-    let mut bytes = [0u8; hex::MOST];
+    let mut bytes = hex::room();
     let Decoded::Until(end) = fields::decode_last(left, &mut bytes, 0) else {
         return output::put_bad(text, at);
     };

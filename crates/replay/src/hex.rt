@@ -1,8 +1,17 @@
 // Bytes as a call list shows them: pairs of uppercase digits, or `-` for none.
 use crate::lines;
+ghost use mathlib.Core.Path.{_≡_};
+ghost use lib.ListN.{length};
 
 // A line has digits of so many bytes at most.
-pub(crate) const MOST: usize = lines::LONGEST / 2;
+const MOST: usize = lines::LONGEST / 2;
+
+// Room for them. The `ensures` gives only the length, which lending the array as a slice needs.
+pub(crate) fn room() -> [u8; MOST]
+    ensures { λ r. ⌜ 32768 ≡ length r ⌝ }
+{
+    [0; MOST]
+}
 
 pub(crate) enum Byte {
     Value(u8),

@@ -211,7 +211,7 @@ pub(crate) fn poke(step: Step, left: &[u8], text: &mut [u8]) -> Step {
     if octets::equal(name, b"mode") {
         return poke_mode(step, field, text);
     }
-    let mut bytes = [0u8; hex::MOST];
+    let mut bytes = hex::room();
     let Decoded::Until(end) = hex::decode(field, &mut bytes, 0) else {
         return calls::bad(step, text);
     };

@@ -103,7 +103,7 @@ fn write_list(
     let mut functions = [0u8; fields::MOST];
     let mut numbers = [0u16; fields::MOST];
     let mut lengths = [0u16; fields::MOST];
-    let mut values = [0u8; hex::MOST];
+    let mut values = hex::room();
     let Items::Read { count, size } = read_commands(
         list,
         &mut functions,
@@ -134,7 +134,7 @@ pub(crate) fn write(left: &[u8], text: &mut [u8], at: usize) -> usize {
         return output::put_bad(text, at);
     }
     let sender = fields::after(left, b' ');
-    let mut bytes = [0u8; hex::MOST];
+    let mut bytes = hex::room();
     let Two::Until { first, second } = fields::decode_two(sender, &mut bytes) else {
         return output::put_bad(text, at);
     };
@@ -195,7 +195,7 @@ fn put_response(text: &mut [u8], at: usize, response: Response, packet: &[u8]) -
 
 // read ID PASSWORD PACKET
 pub(crate) fn read(left: &[u8], text: &mut [u8], at: usize) -> usize {
-    let mut bytes = [0u8; hex::MOST];
+    let mut bytes = hex::room();
     let Two::Until { first, second } = fields::decode_two(left, &mut bytes) else {
         return output::put_bad(text, at);
     };
@@ -215,7 +215,7 @@ pub(crate) fn read(left: &[u8], text: &mut [u8], at: usize) -> usize {
 
 // list PACKET
 pub(crate) fn list(left: &[u8], text: &mut [u8], at: usize) -> usize {
-    let mut bytes = [0u8; hex::MOST];
+    let mut bytes = hex::room();
     let Decoded::Until(end) = fields::decode_last(left, &mut bytes, 0) else {
         return output::put_bad(text, at);
     };
