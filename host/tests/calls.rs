@@ -151,15 +151,23 @@ fn calls() -> impl Iterator<Item = (String, String)> {
 
 #[test]
 fn the_libraries_answer_the_call_list_as_stored() {
-    let (mut session, mut asked) = (Session(None), 0);
+    let (mut session, mut asked, mut on_captures) = (Session(None), 0, 0);
     for (call, stored) in calls() {
         if let Some(answer) = session.answer(&call) {
             let is_read = answer == "reports" && stored.starts_with("reports");
             assert!(is_read || answer == stored, "{call}\n{answer}\n{stored}");
             asked += 1;
+            on_captures += usize::from(is_on_captures(&call));
         }
     }
     assert!(asked > 3000, "only {asked} calls");
+    assert!(on_captures > 500, "only {on_captures} calls on captures");
+}
+
+fn is_on_captures(call: &str) -> bool {
+    ["capread ", "capwrite ", "summary "]
+        .iter()
+        .any(|name| call.starts_with(name))
 }
 
 /// The parser refuses what the stored listing refuses with 2 to 6, and finds the parts of every other packet.
