@@ -310,7 +310,7 @@ udgornwy_reply udgornwy_count_window(uint64_t *counts, size_t counts_count, uint
                                      uint16_t boards);
 
 /*
- * Writes counts as text: the line "index,number,count" for each that is not 0, ascending, and then "refused,N" where the refusal N is not 0.
+ * Writes counts as text: the line "index,refusal,count" for each that is not 0, ascending, and then "refused,N" where the refusal N is not 0.
  * Lines end in LF; there is no byte 0 at the end.
  * text needs the text's own length; 4763 bytes are enough for 16 * 11 counts.
  * Refusal:
