@@ -21,7 +21,7 @@ pub(crate) const VERSION_AT: usize = 3;
 
 pub(crate) const COUNT_AT: usize = 5;
 
-pub(crate) const IDS_AT: usize = COUNT_AT + INDEX_SIZE;
+pub const IDS_AT: usize = COUNT_AT + INDEX_SIZE;
 
 // The most bytes that stand before the records.
 pub const LONGEST_HEAD: usize = IDS_AT + framing::ID_SIZE * BOARD_LIMIT;
@@ -33,7 +33,7 @@ pub(crate) const COUNTER_AT: usize = INDEX_SIZE + 1;
 
 pub(crate) const SIZE_AT: usize = INDEX_SIZE + 5;
 
-pub(crate) const PACKET_AT: usize = INDEX_SIZE + 7;
+pub const PACKET_AT: usize = INDEX_SIZE + 7;
 
 // A number of two bytes, low byte first.
 pub(crate) fn two_bytes(number: u16) -> [u8; 2]
@@ -43,7 +43,7 @@ pub(crate) fn two_bytes(number: u16) -> [u8; 2]
 }
 
 // Refusal 52: a capture has 1 to 16 boards.
-pub(crate) fn check_count(boards: usize) -> Check
+pub fn check_count(boards: usize) -> Check
     ensures { λ r. ⌜ r ≡ checked (wrongCount boards) ⌝ }
 {
     if boards < 1 {
@@ -53,7 +53,7 @@ pub(crate) fn check_count(boards: usize) -> Check
 }
 
 // Whether the fields of a record are in their ranges.
-pub(crate) fn in_range(boards: usize, index: u16, direction: u8, size: usize) -> bool
+pub fn in_range(boards: usize, index: u16, direction: u8, size: usize) -> bool
     ensures { λ r. ⌜ r ≡ fieldsInRange boards index direction size ⌝ }
 {
     if boards <= octets::u16_to_usize(index) {

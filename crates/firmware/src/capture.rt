@@ -21,7 +21,7 @@ pub struct OpenedCapture {
     pub records: usize,
 }
 
-// Opens a capture, as `reading::open`.
+// Opens a capture, as `captures::reading::open`.
 #[no_mangle]
 pub extern "C" fn udgornwy_open_capture(capture: &[u8]) -> OpenedCapture
     ensures { λ r. ⌜ r ≡ openedInNumbers (openedOf (now (capture .entry))) ⌝ }
@@ -71,7 +71,7 @@ fn no_record(kind: u8) -> CaptureRecord
     }
 }
 
-// The first record of what is left of a capture of so many boards, as `reading::next_record`.
+// The first record of what is left of a capture of so many boards, as `captures::reading::next_record`.
 #[no_mangle]
 pub extern "C" fn udgornwy_next_record(rest: &[u8], boards: u16) -> CaptureRecord
     ensures { λ r. ⌜ r ≡ nextInNumbers (nextRecord boards (now (rest .entry))) ⌝ }
@@ -109,15 +109,15 @@ fn written_reply(written: Written) -> Reply
     }
 }
 
-// Writes the head of a capture into the first bytes of `buffer`, as `writing::write_head`.
+// Writes the head of a capture into the first bytes of `buffer`, as `recording::write_head`.
 #[no_mangle]
 pub extern "C" fn udgornwy_write_head(buffer: &mut [u8], ids: &[u8]) -> Reply
     ensures { λ r. ⌜ WritesHead (headCall (now (buffer .entry)) (now (ids .entry))) r (now (buffer .exit)) ⌝ }
 {
-    written_reply(captures::writing::write_head(buffer, ids))
+    written_reply(recording::write_head(buffer, ids))
 }
 
-// Writes a record of a capture of so many boards into the first bytes of `buffer`, as `writing::write_record`.
+// Writes a record of a capture of so many boards into the first bytes of `buffer`, as `recording::write_record`.
 #[no_mangle]
 pub extern "C" fn udgornwy_write_record(
     buffer: &mut [u8],
@@ -129,17 +129,10 @@ pub extern "C" fn udgornwy_write_record(
 ) -> Reply
     ensures { λ r. ⌜ WritesRecord (recordCall (now (buffer .entry)) boards (recordOf index direction counter (now (packet .entry)))) r (now (buffer .exit)) ⌝ }
 {
-    written_reply(captures::writing::write_record(
-        buffer,
-        boards,
-        index,
-        direction,
-        counter,
-        packet,
-    ))
+    written_reply(recording::write_record(buffer, boards, index, direction, counter, packet))
 }
 
-// Writes a capture into the first bytes of `buffer`, as `writing::write`.
+// Writes a capture into the first bytes of `buffer`, as `recording::write`.
 #[no_mangle]
 pub extern "C" fn udgornwy_write_capture(
     buffer: &mut [u8],
@@ -152,18 +145,10 @@ pub extern "C" fn udgornwy_write_capture(
 ) -> Reply
     ensures { λ r. ⌜ WritesCapture (writeCall (now (buffer .entry)) (now (ids .entry)) (now (indexes .entry)) (now (directions .entry)) (now (counters .entry)) (now (lengths .entry)) (now (packets .entry))) r (now (buffer .exit)) ⌝ }
 {
-    written_reply(captures::writing::write(
-        buffer,
-        ids,
-        indexes,
-        directions,
-        counters,
-        lengths,
-        packets,
-    ))
+    written_reply(recording::write(buffer, ids, indexes, directions, counters, lengths, packets))
 }
 
-// Counts the records that stand in a window from `start` to `end`, as `window::count_window`. Refusal 53: a field outside its range; else
+// Counts the records that stand in a window from `start` to `end`, as `counts::window::count_window`. Refusal 53: a field outside its range; else
 // `length` bytes are left, and stand at the window's start.
 #[no_mangle]
 pub extern "C" fn udgornwy_count_window(

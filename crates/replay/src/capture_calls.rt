@@ -131,7 +131,7 @@ fn write_list(text: &mut [u8], at: usize, buffer: &mut [u8], ids: &[u8], list: &
     ) else {
         return output::put_bad(text, at);
     };
-    let written = captures::writing::write(
+    let written = recording::write(
         buffer,
         ids,
         slices::first_numbers(&indexes, count),
