@@ -11,51 +11,51 @@ use Rattle.octets.specs.Octets.{overwrite, sum, Overwrites}
 use Rattle.octets.proofs.Overwriting.{overwrites, overwrite-after, length-overwrite}
 use Rattle.framing.specs.Refusal.{firstRefusal, checked}
 use Rattle.framing.specs.declared.Check.{Check}
-use Rattle.captures.specs.Form.{idsAt, packetAt, boardLimit, boardsOf, headBytes, recordsBytes}
+use Rattle.captures.specs.Form.{newest, idsAt, packetAt, boardLimit, boardsOf, headBytes, recordsBytes}
 use Rattle.captures.specs.Writing.{WriteCall, SideBySide, recordsGiven, bytesGiven, tooShort, writeRefusals, writeRefusal}
 use Rattle.captures.proofs.Lists.{length-head, length-list}
 
 -- 54 is left to decide
 pub record Judged (call : WriteCall) : Type 0 where
-  pub few : boardsOf (call .ids) ≤ boardLimit
+  pub few : boardsOf (call .ids) ≤ boardLimit newest
   pub counts : SideBySide (call .indexes) (call .directions) (call .counters) (call .lengths)
   pub adds-up : sum (call .lengths) ≡ length (call .packets)
   pub left : writeRefusal call ≡ firstRefusal (drop 3 writeRefusals) call
 
 module _ {call : WriteCall} (judged : Judged call) where
-  length-given : length (bytesGiven call) ≡ idsAt + length (call .ids) + (packetAt * length (call .indexes) + length (call .packets))
+  length-given : length (bytesGiven call) ≡ idsAt newest + length (call .ids) + (packetAt newest * length (call .indexes) + length (call .packets))
   length-given =
       omega (
         arith,
-        length-append (headBytes (call .ids)) (recordsBytes (recordsGiven call)),
-        length-head (call .ids),
-        length-list (call .indexes) (call .directions) (call .counters) (call .lengths) (call .packets) (judged .counts) (judged .adds-up),
+        length-append (headBytes newest (call .ids)) (recordsBytes newest (recordsGiven call)),
+        length-head newest (call .ids),
+        length-list newest (call .indexes) (call .directions) (call .counters) (call .lengths) (call .packets) (judged .counts) (judged .adds-up),
       )
 
   -- the room that the code asks for is that of the bytes
   pub room-asked :
       {answer : Check}
-      → answer ≡ checked (ltb (length (call .buffer)) (idsAt + length (call .ids) + (packetAt * length (call .indexes) + length (call .packets))))
+      → answer ≡ checked (ltb (length (call .buffer)) (idsAt newest + length (call .ids) + (packetAt newest * length (call .indexes) + length (call .packets))))
       → answer ≡ checked (tooShort (call .buffer) (bytesGiven call))
   room-asked e = e ∙ ap (λ (size : ℕ). checked (ltb (length (call .buffer)) size)) (sym length-given)
 
   module _ (roomy : tooShort (call .buffer) (bytesGiven call) ≡ false) where
-    both-fit : length (headBytes (call .ids)) + length (recordsBytes (recordsGiven call)) ≤ length (call .buffer)
-    both-fit = omega (arith, ltb-false (length (call .buffer)) (length (bytesGiven call)) roomy, length-append (headBytes (call .ids)) (recordsBytes (recordsGiven call)))
+    both-fit : length (headBytes newest (call .ids)) + length (recordsBytes newest (recordsGiven call)) ≤ length (call .buffer)
+    both-fit = omega (arith, ltb-false (length (call .buffer)) (length (bytesGiven call)) roomy, length-append (headBytes newest (call .ids)) (recordsBytes newest (recordsGiven call)))
 
-    module _ {answer : Bool} {after : List ℕ} (headed : Overwrites (call .buffer) 0 (headBytes (call .ids)) answer after) {start : ℕ} (starts : start ≡ idsAt + length (call .ids)) where
-      head-put : after ≡ overwrite (call .buffer) 0 (headBytes (call .ids))
+    module _ {answer : Bool} {after : List ℕ} (headed : Overwrites (call .buffer) 0 (headBytes newest (call .ids)) answer after) {start : ℕ} (starts : start ≡ idsAt newest + length (call .ids)) where
+      head-put : after ≡ overwrite (call .buffer) 0 (headBytes newest (call .ids))
       head-put = overwrites headed (omega (arith, both-fit))
 
       same-room : length after ≡ length (call .buffer)
-      same-room = ap length head-put ∙ length-overwrite (call .buffer) 0 (headBytes (call .ids)) (omega (arith, both-fit))
+      same-room = ap length head-put ∙ length-overwrite (call .buffer) 0 (headBytes newest (call .ids)) (omega (arith, both-fit))
 
-      pub records-fit : start + length (recordsBytes (recordsGiven call)) ≤ length after
-      records-fit = omega (arith, starts, both-fit, same-room, length-head (call .ids))
+      pub records-fit : start + length (recordsBytes newest (recordsGiven call)) ≤ length after
+      records-fit = omega (arith, starts, both-fit, same-room, length-head newest (call .ids))
 
-      pub all-put : {end : ℕ} {last : List ℕ} → end ≡ start + length (recordsBytes (recordsGiven call)) → last ≡ overwrite after start (recordsBytes (recordsGiven call)) → (end ≡ length (bytesGiven call)) × (last ≡ overwrite (call .buffer) 0 (bytesGiven call))
+      pub all-put : {end : ℕ} {last : List ℕ} → end ≡ start + length (recordsBytes newest (recordsGiven call)) → last ≡ overwrite after start (recordsBytes newest (recordsGiven call)) → (end ≡ length (bytesGiven call)) × (last ≡ overwrite (call .buffer) 0 (bytesGiven call))
       all-put ends e =
-          let place : start ≡ 0 + length (headBytes (call .ids)) = omega (arith, starts, length-head (call .ids)) in (
-            omega (arith, ends, starts, length-head (call .ids), length-append (headBytes (call .ids)) (recordsBytes (recordsGiven call))),
-            e ∙ rw (head-put, place) (overwrite-after (call .buffer) 0 (headBytes (call .ids)) (recordsBytes (recordsGiven call)) (omega (arith, both-fit))),
+          let place : start ≡ 0 + length (headBytes newest (call .ids)) = omega (arith, starts, length-head newest (call .ids)) in (
+            omega (arith, ends, starts, length-head newest (call .ids), length-append (headBytes newest (call .ids)) (recordsBytes newest (recordsGiven call))),
+            e ∙ rw (head-put, place) (overwrite-after (call .buffer) 0 (headBytes newest (call .ids)) (recordsBytes newest (recordsGiven call)) (omega (arith, both-fit))),
           )

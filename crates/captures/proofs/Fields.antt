@@ -1,13 +1,13 @@
 -- Laws of numbers of several bytes.
 use Prim.Native.Nat.{ℕ, zero, suc, _+_, _*_, _/_, _%_, _^_, _<_, _≤_}
 use native.Mathlib.Nat.{pow-suc, div-add-mod', div-lt-iff-lt-mul}
-use native.Mathlib.Numerals.{add-one}
+use native.Mathlib.Numerals.{add-one, unary-clauses}
 use native.Mathlib.Omega.{arith}
 use mathlib.Core.List.{List, [], _∷_, _++_}
 use mathlib.Core.Path.{_≡_, refl, sym, ap, _∙_}
 use lib.ListN.{length, take, drop, getD, length-drop}
 use lib.Seq.{drop-cons, take-append-le, drop-append-le, take-at, drop-at, length-take-le, getD-drop}
-use Rattle.captures.specs.Numbers.{numberOf, bytesOf, field}
+use Rattle.captures.specs.Numbers.{Bytes, numberOf, bytesOf, field}
 
 -- a number's bytes are as many as asked for, and give it back where it has room in them
 pub length-bytes : (size number : ℕ) → length (bytesOf size number) ≡ size
@@ -24,7 +24,7 @@ number-back (suc size) number h =
     omega (arith, high, div-add-mod' number 256)
 
 -- bytes are those of their number
-pub bytes-back : (bytes : List ℕ) → ((place : ℕ) → getD bytes place 0 < 256) → bytesOf (length bytes) (numberOf bytes) ≡ bytes
+pub bytes-back : (bytes : List ℕ) → Bytes bytes → bytesOf (length bytes) (numberOf bytes) ≡ bytes
 unfolding bytesOf numberOf
 bytes-back [] small = refl
 bytes-back (byte ∷ bytes) small =
@@ -46,8 +46,12 @@ field-one (suc at) [] = refl
 field-one zero (byte ∷ bytes) = omega arith
 field-one (suc at) (byte ∷ bytes) = field-one at bytes
 
-pub field-two : (at : ℕ) (l : List ℕ) → at + 2 ≤ length l → field at 2 l ≡ getD l at 0 + 256 * getD l (at + 1) 0
-field-two at l h = field-more at 1 l (omega arith) ∙ ap (λ (n : ℕ). getD l at 0 + 256 * n) (field-one (at + 1) l)
+pub field-two : (at : ℕ) (l : List ℕ) → field at 2 l ≡ getD l at 0 + 256 * getD l (at + 1) 0
+unfolding numberOf
+field-two zero [] = refl
+field-two (suc at) [] = refl
+field-two zero (byte ∷ bytes) = ap (λ (n : ℕ). byte + 256 * n) (field-one 0 bytes)
+field-two (suc at) (byte ∷ bytes) = field-two at bytes ∙ simp unary-clauses
 
 twice : (at : ℕ) → at + 1 + 1 ≡ at + 2
 twice at = omega arith
@@ -57,7 +61,7 @@ field-four at l h =
     let first : field at 4 l ≡ getD l at 0 + 256 * field (at + 1) 3 l = field-more at 3 l (omega arith) in
     let second : field (at + 1) 3 l ≡ getD l (at + 1) 0 + 256 * field (at + 1 + 1) 2 l = field-more (at + 1) 2 l (omega arith) in
     let there : field (at + 1 + 1) 2 l ≡ field (at + 2) 2 l = ap (λ (n : ℕ). field n 2 l) (twice at) in
-    omega (arith, field-two at l (omega arith))
+    omega (arith, field-two at l)
 
 -- a field looks no further than its bytes
 pub field-front : (at size : ℕ) (l more : List ℕ) → at + size ≤ length l → field at size (l ++ more) ≡ field at size l
@@ -69,18 +73,30 @@ pub field-at : (before bytes after : List ℕ) {at size : ℕ} → length before
 field-at before bytes after {at} {size} e f = rw (drop-at before (bytes ++ after) at e, take-at bytes after size f)
 
 -- a part of bytes is bytes
-taken-small : (size : ℕ) (l : List ℕ) → ((place : ℕ) → getD l place 0 < 256) → (place : ℕ) → getD (take size l) place 0 < 256
+taken-small : (size : ℕ) (l : List ℕ) → Bytes l → Bytes (take size l)
 taken-small zero l small place = omega arith
 taken-small (suc size) [] small place = omega arith
 taken-small (suc size) (byte ∷ bytes) small zero = small zero
 taken-small (suc size) (byte ∷ bytes) small (suc place) = taken-small size bytes (λ p. small (suc p)) place
 
-pub dropped-small : (at : ℕ) (l : List ℕ) → ((place : ℕ) → getD l place 0 < 256) → (place : ℕ) → getD (drop at l) place 0 < 256
+pub dropped-small : (at : ℕ) (l : List ℕ) → Bytes l → Bytes (drop at l)
 dropped-small at l small place = rw (getD-drop at l place 0) (small (at + place))
+
+-- a field of bytes has a number that has room in as many
+taken-number : (size : ℕ) (l : List ℕ) → Bytes l → numberOf (take size l) < 256 ^ size
+unfolding numberOf
+taken-number zero l small = omega arith
+taken-number (suc size) [] small = rw pow-suc (omega (arith, taken-number size [] small))
+taken-number (suc size) (byte ∷ bytes) small =
+    let first : byte < 256 = small 0 in
+    rw pow-suc (omega (arith, taken-number size bytes (λ place. small (suc place))))
+
+pub field-small : (at size : ℕ) (l : List ℕ) → Bytes l → field at size l < 256 ^ size
+field-small at size l small = taken-number size (drop at l) (dropped-small at l small)
 
 -- the bytes of a field's number are those that stand there
 pub field-bytes :
-    (at size : ℕ) (l : List ℕ) → ((place : ℕ) → getD l place 0 < 256) → at + size ≤ length l → bytesOf size (field at size l) ≡ take size (drop at l)
+    (at size : ℕ) (l : List ℕ) → Bytes l → at + size ≤ length l → bytesOf size (field at size l) ≡ take size (drop at l)
 field-bytes at size l small h =
     let whole : length (take size (drop at l)) ≡ size = length-take-le size (drop at l) (simp length-drop (omega arith)) in
     ap (λ (n : ℕ). bytesOf n (field at size l)) (sym whole) ∙ bytes-back (take size (drop at l)) (taken-small size (drop at l) (dropped-small at l small))

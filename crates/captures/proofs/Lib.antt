@@ -11,3 +11,5 @@ pub mod Pieces
 pub mod Ranges
 pub mod WritesRead
 pub mod Told
+pub mod Versions
+pub mod Rewriting

@@ -4,7 +4,7 @@ use native.Mathlib.Numerals.{add-one}
 use native.Mathlib.Omega.{arith}
 use mathlib.Core.Bool.{Bool, true, false, not, _&&_}
 use mathlib.Core.List.{List, [], _∷_, _++_}
-use mathlib.Core.Path.{_≡_, refl, ap, _∙_}
+use mathlib.Core.Path.{_≡_, ap, _∙_}
 use borrow.Author.Tests.{eqb-true, leb-true, not-false}
 use lib.Dec.{leb, eqb}
 use lib.ListN.{length, take, drop, getD, drop-of-length-le, length-append, length-drop}
@@ -13,13 +13,14 @@ use Rattle.octets.specs.Octets.{between, sum}
 use Rattle.octets.proofs.Booleans.{both-true, neither}
 use Rattle.captures.specs.Form.{packetAt, idsAt, boardLimit, boardsOf, wrongCount, Record, recordOf, recordBytes, recordsBytes, headBytes}
 use Rattle.captures.specs.Writing.{wrongIds, recordList, describesRecords, SideBySide, recordInRange, everyInRange}
+use Rattle.captures.specs.declared.Version.{Version}
 use Rattle.captures.proofs.Fields.{length-bytes}
 
-pub length-record : (r : Record) → length (recordBytes r) ≡ packetAt + length (r .packet)
-length-record r = simp (length-append, length-bytes)
+pub length-record : (version : Version) (r : Record) → length (recordBytes version r) ≡ packetAt version + length (r .packet)
+length-record version r = simp (length-append, length-bytes) (omega arith)
 
-pub length-head : (ids : List ℕ) → length (headBytes ids) ≡ idsAt + length ids
-length-head ids = simp (length-append, length-bytes)
+pub length-head : (version : Version) (ids : List ℕ) → length (headBytes version ids) ≡ idsAt version + length ids
+length-head version ids = simp (length-append, length-bytes)
 
 -- what slices that describe a list are
 pub described :
@@ -54,9 +55,9 @@ module _ (indexes directions counters lengths packets : List ℕ) (i : ℕ) wher
   unfolding recordList
   list-end h = rw (drop-of-length-le indexes h)
 
-  pub no-records : length indexes ≤ i → recordsBytes listFrom ≡ []
+  pub no-records : (version : Version) → length indexes ≤ i → recordsBytes version listFrom ≡ []
   unfolding recordsBytes
-  no-records h = ap recordsBytes (list-end h)
+  no-records version h = ap (recordsBytes version) (list-end h)
 
 -- by what was found of the record there
 module _
@@ -78,22 +79,22 @@ module _
     every-step boards e = ap (everyInRange boards) step-there ∙ rw e
 
     pub bytes-step :
-        recordsBytes (listFrom indexes directions counters lengths packets i)
-        ≡ recordBytes there ++ recordsBytes (listFrom indexes directions counters lengths (drop size packets) (i + 1))
+        (version : Version) → recordsBytes version (listFrom indexes directions counters lengths packets i)
+        ≡ recordBytes version there ++ recordsBytes version (listFrom indexes directions counters lengths (drop size packets) (i + 1))
     unfolding recordsBytes
-    bytes-step = ap recordsBytes step-there
+    bytes-step version = ap (recordsBytes version) step-there
 
 -- how long the bytes of a list are
 length-described :
-    (indexes directions counters lengths packets : List ℕ) → SideBySide indexes directions counters lengths → sum lengths ≤ length packets
-    → length (recordsBytes (recordList indexes directions counters lengths packets)) ≡ packetAt * length indexes + sum lengths
+    (version : Version) (indexes directions counters lengths packets : List ℕ) → SideBySide indexes directions counters lengths → sum lengths ≤ length packets
+    → length (recordsBytes version (recordList indexes directions counters lengths packets)) ≡ packetAt version * length indexes + sum lengths
 unfolding recordList recordsBytes sum
-length-described [] directions counters [] packets counts enough = refl
-length-described [] directions counters (size ∷ lengths) packets counts enough = absurd (omega (arith, counts .lengths-count))
-length-described (index ∷ indexes) [] counters lengths packets counts enough = absurd (omega (arith, counts .directions-count))
-length-described (index ∷ indexes) (direction ∷ directions) [] lengths packets counts enough = absurd (omega (arith, counts .counters-count))
-length-described (index ∷ indexes) (direction ∷ directions) (counter ∷ counters) [] packets counts enough = absurd (omega (arith, counts .lengths-count))
-length-described (index ∷ indexes) (direction ∷ directions) (counter ∷ counters) (size ∷ lengths) packets counts enough =
+length-described version [] directions counters [] packets counts enough = omega arith
+length-described version [] directions counters (size ∷ lengths) packets counts enough = absurd (omega (arith, counts .lengths-count))
+length-described version (index ∷ indexes) [] counters lengths packets counts enough = absurd (omega (arith, counts .directions-count))
+length-described version (index ∷ indexes) (direction ∷ directions) [] lengths packets counts enough = absurd (omega (arith, counts .counters-count))
+length-described version (index ∷ indexes) (direction ∷ directions) (counter ∷ counters) [] packets counts enough = absurd (omega (arith, counts .lengths-count))
+length-described version (index ∷ indexes) (direction ∷ directions) (counter ∷ counters) (size ∷ lengths) packets counts enough =
     let fewer : SideBySide indexes directions counters lengths =
     record {
       directions-count = omega (arith, counts .directions-count);
@@ -105,20 +106,20 @@ length-described (index ∷ indexes) (direction ∷ directions) (counter ∷ cou
     let first = recordOf index direction counter (take size packets) in
     omega (
       arith,
-      length-append (recordBytes first) (recordsBytes (recordList indexes directions counters lengths (drop size packets))),
-      length-record first,
+      length-append (recordBytes version first) (recordsBytes version (recordList indexes directions counters lengths (drop size packets))),
+      length-record version first,
       length-take-le size packets whole,
-      length-described indexes directions counters lengths (drop size packets) fewer rest,
+      length-described version indexes directions counters lengths (drop size packets) fewer rest,
     )
 
 pub length-list :
-    (indexes directions counters lengths packets : List ℕ) → SideBySide indexes directions counters lengths → sum lengths ≡ length packets
-    → length (recordsBytes (recordList indexes directions counters lengths packets)) ≡ packetAt * length indexes + length packets
-length-list indexes directions counters lengths packets counts adds =
-    omega (arith, adds, length-described indexes directions counters lengths packets counts (omega (arith, adds)))
+    (version : Version) (indexes directions counters lengths packets : List ℕ) → SideBySide indexes directions counters lengths → sum lengths ≡ length packets
+    → length (recordsBytes version (recordList indexes directions counters lengths packets)) ≡ packetAt version * length indexes + length packets
+length-list version indexes directions counters lengths packets counts adds =
+    omega (arith, adds, length-described version indexes directions counters lengths packets counts (omega (arith, adds)))
 
--- right IDs are those of at most as many boards as a capture has
-pub few-boards : (ids : List ℕ) → wrongIds ids ≡ false → boardsOf ids ≤ boardLimit
-few-boards ids right =
-    let count : between 1 boardLimit (boardsOf ids) ≡ true = not-false _ (neither (not (eqb (length ids % 16) 0)) (wrongCount (boardsOf ids)) right .1) in
-    leb-true (boardsOf ids) boardLimit (both-true (leb 1 (boardsOf ids)) (leb (boardsOf ids) boardLimit) count .1)
+-- right IDs are those of at most as many boards as the version has
+pub few-boards : (version : Version) (ids : List ℕ) → wrongIds version ids ≡ false → boardsOf ids ≤ boardLimit version
+few-boards version ids right =
+    let count : between 1 (boardLimit version) (boardsOf ids) ≡ true = not-false _ (neither (not (eqb (length ids % 16) 0)) (wrongCount version (boardsOf ids)) right .1) in
+    leb-true (boardsOf ids) (boardLimit version) (both-true (leb 1 (boardsOf ids)) (leb (boardsOf ids) (boardLimit version)) count .1)

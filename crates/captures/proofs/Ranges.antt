@@ -11,8 +11,9 @@ use lib.ListN.{length, take, drop, length-take, length-drop}
 use lib.Seq.{length-take-le}
 use Rattle.octets.proofs.Booleans.{both-true}
 use Rattle.captures.specs.Form.{idsAt, packetAt, boardsOf, fieldsInRange}
-use Rattle.captures.specs.Reading.{boardCount, recordsAt, indexIn, directionIn, sizeIn, Reading, read, recordsOf, headRefusal, idsAs, recordsAs}
+use Rattle.captures.specs.Reading.{versionOf, boardCount, recordsAt, indexIn, directionIn, sizeIn, Reading, read, recordsOf, headRefusal, idsAs, recordsAs}
 use Rattle.captures.specs.Statements.{Within, RecordsWithin}
+use Rattle.captures.specs.declared.Version.{Version}
 use Rattle.captures.proofs.Readings.{of-readings}
 use Rattle.captures.proofs.Pieces.{inside}
 
@@ -28,9 +29,9 @@ ranges boards index direction size h =
     let two = both-true _ (leb direction 1) (all .0) in
     record { board = ltb-true _ _ (two .0); way = leb-true _ _ (two .1); long = leb-true size 256 (all .1) }
 
-within : (boards : ℕ) (bytes : List ℕ) → Within boards (recordsOf (read boards bytes))
+within : (version : Version) (boards : ℕ) (bytes : List ℕ) → Within boards (recordsOf (read version boards bytes))
 unfolding recordsOf Within
-within boards bytes =
+within version boards bytes =
     of-readings (λ (l : List ℕ) (r : Reading). Within boards (recordsOf r))
     (record {
       none-left = tt;
@@ -39,19 +40,20 @@ within boards bytes =
       out-of-range = λ l. tt;
       packet-cut = λ l right few. tt;
       whole = λ b s r right h.
-          let found = ranges boards (indexIn (b ∷ s)) (directionIn (b ∷ s)) (sizeIn (b ∷ s)) right in
-          (found .board, found .way, omega (arith, found .long, length-take (sizeIn (b ∷ s)) (drop packetAt (b ∷ s))), h);
+          let found = ranges boards (indexIn version (b ∷ s)) (directionIn version (b ∷ s)) (sizeIn version (b ∷ s)) right in
+          (found .board, found .way, omega (arith, found .long, length-take (sizeIn version (b ∷ s)) (drop (packetAt version) (b ∷ s))), h);
     })
     bytes 0
 
-by-head : (capture : List ℕ) (refused : Option ℕ) → headRefusal capture ≡ refused → Within (boardsOf (idsAs refused capture)) (recordsAs refused capture)
+by-head : (capture : List ℕ) (refused : Option ℕ) → headRefusal capture ≡ refused → Within (boardsOf (idsAs (versionOf capture) refused capture)) (recordsAs (versionOf capture) refused capture)
 unfolding Within
 by-head capture (some number) e = tt
 by-head capture none e =
-    let long : 16 * boardCount capture ≤ length (drop idsAt capture) = simp length-drop (omega (arith, inside capture e)) in
-    let boards : boardsOf (take (16 * boardCount capture) (drop idsAt capture)) ≡ boardCount capture =
-    omega (arith, length-take-le (16 * boardCount capture) (drop idsAt capture) long) in
-    rw boards (within (boardCount capture) (drop (recordsAt capture) capture))
+    let version = versionOf capture in
+    let long : 16 * boardCount version capture ≤ length (drop (idsAt version) capture) = simp length-drop (omega (arith, inside capture e)) in
+    let boards : boardsOf (take (16 * boardCount version capture) (drop (idsAt version) capture)) ≡ boardCount version capture =
+    omega (arith, length-take-le (16 * boardCount version capture) (drop (idsAt version) capture) long) in
+    rw boards (within version (boardCount version capture) (drop (recordsAt version capture) capture))
 
 pub records-within : RecordsWithin
 records-within capture = by-head capture (headRefusal capture) refl

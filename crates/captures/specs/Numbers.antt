@@ -1,7 +1,11 @@
 -- Numbers of several bytes, low byte first.
-use Prim.Native.Nat.{ℕ, zero, suc, _+_, _*_, _/_, _%_}
+use Prim.Native.Nat.{ℕ, zero, suc, _+_, _*_, _/_, _%_, _<_}
 use mathlib.Core.List.{List, [], _∷_}
-use lib.ListN.{take, drop}
+use lib.ListN.{take, drop, getD}
+
+-- each is a byte
+abbrev pub Bytes : List ℕ → Type 0
+Bytes l = (place : ℕ) → getD l place 0 < 256
 
 unfoldable pub numberOf : List ℕ → ℕ
 numberOf [] = 0

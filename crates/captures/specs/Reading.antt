@@ -8,53 +8,67 @@ use lib.ListN.{length, take, drop}
 use Rattle.octets.specs.Octets.{standsAt}
 use Rattle.framing.specs.Refusal.{Refusal, refusal, firstRefusal}
 use Rattle.captures.specs.Numbers.{bytesOf, field}
-use Rattle.captures.specs.Form.{mark, version, indexSize, versionAt, countAt, idsAt, directionAt, counterAt, sizeAt, packetAt, Record, recordOf, wrongCount, fieldsInRange}
+use Rattle.captures.specs.Form.{mark, versionNumber, indexSize, versionAt, countAt, idsAt, directionAt, counterAt, sizeAt, packetAt, Record, recordOf, wrongCount, fieldsInRange}
+use Rattle.captures.specs.declared.Version.{Version}
+use Rattle.captures.specs.declared.Version.the-variants.{One, Two}
 use Rattle.captures.specs.declared.reading.Opened.{Opened}
 use Rattle.captures.specs.declared.reading.Opened.the-variants as opened
 use Rattle.captures.specs.declared.reading.NextRecord.{NextRecord}
 use Rattle.captures.specs.declared.reading.NextRecord.the-variants as next
 
-abbrev pub boardCount : List ℕ → ℕ
-boardCount capture = field countAt indexSize capture
+-- nothing stands behind the end, so that each of these holds of bytes that are cut short, too
+abbrev pub isVersion : Version → List ℕ → Bool
+isVersion version capture = standsAt capture versionAt (bytesOf 2 (versionNumber version))
+
+-- the version of a capture that 51 does not refuse
+abbrev pub versionOf : List ℕ → Version
+versionOf capture = cond (isVersion One capture) One Two
+
+abbrev pub boardCount : Version → List ℕ → ℕ
+boardCount version capture = field countAt (indexSize version) capture
 
 -- where the records stand
-abbrev pub recordsAt : List ℕ → ℕ
-recordsAt capture = idsAt + 16 * boardCount capture
+abbrev pub recordsAt : Version → List ℕ → ℕ
+recordsAt version capture = idsAt version + 16 * boardCount version capture
 
--- nothing stands behind the end, so that each of them holds of bytes that are cut short, too
 abbrev pub wrongMark : List ℕ → Bool
 wrongMark capture = not (standsAt capture 0 mark)
 
 abbrev pub wrongVersion : List ℕ → Bool
-wrongVersion capture = not (standsAt capture versionAt (bytesOf 2 version))
+wrongVersion capture = not (isVersion One capture || isVersion Two capture)
 
-abbrev pub wrongBoards : List ℕ → Bool
-wrongBoards capture = wrongCount (boardCount capture) || ltb (length capture) (recordsAt capture)
+abbrev pub wrongBoards : Version → List ℕ → Bool
+wrongBoards version capture = wrongCount version (boardCount version capture) || ltb (length capture) (recordsAt version capture)
 
 unfoldable pub headRefusals : List (Refusal (List ℕ))
-headRefusals = refusal 50 wrongMark ∷ refusal 51 wrongVersion ∷ refusal 52 wrongBoards ∷ []
+headRefusals =
+    refusal 50 wrongMark
+    ∷ refusal 51 wrongVersion
+    ∷ refusal 52 (λ (capture : List ℕ). wrongBoards (versionOf capture) capture)
+    ∷ []
 
 unfoldable pub headRefusal : List ℕ → Option ℕ
 headRefusal capture = firstRefusal headRefusals capture
 
 -- the parts of the record at the start of these bytes
-abbrev pub indexIn : List ℕ → ℕ
-indexIn bytes = field 0 indexSize bytes
+abbrev pub indexIn : Version → List ℕ → ℕ
+indexIn version bytes = field 0 (indexSize version) bytes
 
-abbrev pub directionIn : List ℕ → ℕ
-directionIn bytes = field directionAt 1 bytes
+abbrev pub directionIn : Version → List ℕ → ℕ
+directionIn version bytes = field (directionAt version) 1 bytes
 
-abbrev pub counterIn : List ℕ → ℕ
-counterIn bytes = field counterAt 4 bytes
+abbrev pub counterIn : Version → List ℕ → ℕ
+counterIn version bytes = field (counterAt version) 4 bytes
 
-abbrev pub sizeIn : List ℕ → ℕ
-sizeIn bytes = field sizeAt 2 bytes
+abbrev pub sizeIn : Version → List ℕ → ℕ
+sizeIn version bytes = field (sizeAt version) 2 bytes
 
-abbrev pub recordIn : List ℕ → Record
-recordIn bytes = recordOf (indexIn bytes) (directionIn bytes) (counterIn bytes) (take (sizeIn bytes) (drop packetAt bytes))
+abbrev pub recordIn : Version → List ℕ → Record
+recordIn version bytes =
+    recordOf (indexIn version bytes) (directionIn version bytes) (counterIn version bytes) (take (sizeIn version bytes) (drop (packetAt version) bytes))
 
-abbrev pub inRange : ℕ → List ℕ → Bool
-inRange boards bytes = fieldsInRange boards (indexIn bytes) (directionIn bytes) (sizeIn bytes)
+abbrev pub inRange : Version → ℕ → List ℕ → Bool
+inRange version boards bytes = fieldsInRange boards (indexIn version bytes) (directionIn version bytes) (sizeIn version bytes)
 
 -- what is read: the records in order, up to the bytes that are left, of which there are none at the end of the capture and else the start
 -- of a record, or up to a field outside its range
@@ -64,17 +78,17 @@ pub data Reading : Type 0 where
   item : Record → Reading → Reading
 
 -- behind k bytes that belong to a record
-unfoldable pub reading : ℕ → List ℕ → ℕ → Reading
-reading boards [] k = left []
-reading boards (b ∷ s) (suc k) = reading boards s k
-reading boards (b ∷ s) zero =
-    cond (ltb (length (b ∷ s)) packetAt) (left (b ∷ s))
-    (cond (not (inRange boards (b ∷ s))) wrong
-    (cond (ltb (length (b ∷ s)) (packetAt + sizeIn (b ∷ s))) (left (b ∷ s))
-    (item (recordIn (b ∷ s)) (reading boards s (indexSize + 6 + sizeIn (b ∷ s))))))
+unfoldable pub reading : Version → ℕ → List ℕ → ℕ → Reading
+reading version boards [] k = left []
+reading version boards (b ∷ s) (suc k) = reading version boards s k
+reading version boards (b ∷ s) zero =
+    cond (ltb (length (b ∷ s)) (packetAt version)) (left (b ∷ s))
+    (cond (not (inRange version boards (b ∷ s))) wrong
+    (cond (ltb (length (b ∷ s)) (packetAt version + sizeIn version (b ∷ s))) (left (b ∷ s))
+    (item (recordIn version (b ∷ s)) (reading version boards s (indexSize version + 6 + sizeIn version (b ∷ s))))))
 
-abbrev pub read : ℕ → List ℕ → Reading
-read boards bytes = reading boards bytes 0
+abbrev pub read : Version → ℕ → List ℕ → Reading
+read version boards bytes = reading version boards bytes 0
 
 -- the records before the end or the refusal
 unfoldable pub recordsOf : Reading → List Record
@@ -88,51 +102,56 @@ wrongRecord (left bytes) = not (eqb (length bytes) 0)
 wrongRecord wrong = true
 wrongRecord (item r after) = wrongRecord after
 
-abbrev pub readIn : List ℕ → Reading
-readIn capture = read (boardCount capture) (drop (recordsAt capture) capture)
+abbrev pub readIn : Version → List ℕ → Reading
+readIn version capture = read version (boardCount version capture) (drop (recordsAt version capture) capture)
+
+-- what is read of a capture, by its own version
+abbrev pub readingOf : List ℕ → Reading
+readingOf capture = readIn (versionOf capture) capture
 
 -- 50, 51, 52, 53
 unfoldable pub captureRefusals : List (Refusal (List ℕ))
-captureRefusals = headRefusals ++ refusal 53 (λ (capture : List ℕ). wrongRecord (readIn capture)) ∷ []
+captureRefusals = headRefusals ++ refusal 53 (λ (capture : List ℕ). wrongRecord (readingOf capture)) ∷ []
 
 unfoldable pub captureRefusal : List ℕ → Option ℕ
 captureRefusal capture = firstRefusal captureRefusals capture
 
 -- the IDs, 16 bytes each, and the records before the refusal; neither where 50 to 52 refuse the capture
-abbrev pub idsAs : Option ℕ → List ℕ → List ℕ
-idsAs none capture = take (16 * boardCount capture) (drop idsAt capture)
-idsAs (some number) capture = []
+abbrev pub idsAs : Version → Option ℕ → List ℕ → List ℕ
+idsAs version none capture = take (16 * boardCount version capture) (drop (idsAt version) capture)
+idsAs version (some number) capture = []
 
 abbrev pub idsIn : List ℕ → List ℕ
-idsIn capture = idsAs (headRefusal capture) capture
+idsIn capture = idsAs (versionOf capture) (headRefusal capture) capture
 
-abbrev pub recordsAs : Option ℕ → List ℕ → List Record
-recordsAs none capture = recordsOf (readIn capture)
-recordsAs (some number) capture = []
+abbrev pub recordsAs : Version → Option ℕ → List ℕ → List Record
+recordsAs version none capture = recordsOf (readIn version capture)
+recordsAs version (some number) capture = []
 
 abbrev pub recordsIn : List ℕ → List Record
-recordsIn capture = recordsAs (headRefusal capture) capture
+recordsIn capture = recordsAs (versionOf capture) (headRefusal capture) capture
 
--- the answer of `open`: the board count and where IDs and records stand, or the number of the refusal
-abbrev pub openedAs : Option ℕ → List ℕ → Opened
-openedAs none capture = opened.Capture (boardCount capture) idsAt (recordsAt capture)
-openedAs (some number) capture = opened.Refused number
+-- the answer of `open`: version, board count and where IDs and records stand, or the number of the refusal
+abbrev pub openedAs : Version → Option ℕ → List ℕ → Opened
+openedAs version none capture = opened.Capture version (boardCount version capture) (idsAt version) (recordsAt version capture)
+openedAs version (some number) capture = opened.Refused number
 
 abbrev pub openedOf : List ℕ → Opened
-openedOf capture = openedAs (headRefusal capture) capture
+openedOf capture = openedAs (versionOf capture) (headRefusal capture) capture
 
 abbrev pub openedNumber : Opened → ℕ
-openedNumber (opened.Capture boards ids records) = 0
+openedNumber (opened.Capture version boards ids records) = 0
 openedNumber (opened.Refused number) = number
 
 -- the answer of `next_record`: what stands first, a record by the places of its parts
-abbrev pub nextRecord : ℕ → List ℕ → NextRecord
-nextRecord boards bytes =
+abbrev pub nextRecord : Version → ℕ → List ℕ → NextRecord
+nextRecord version boards bytes =
     cond (eqb (length bytes) 0) next.End
-    (cond (ltb (length bytes) packetAt) next.Cut
-    (cond (not (inRange boards bytes)) next.Wrong
-    (cond (ltb (length bytes) (packetAt + sizeIn bytes)) next.Cut
-    (next.Record (indexIn bytes) (directionIn bytes) (counterIn bytes) (length bytes - packetAt) (length bytes - (packetAt + sizeIn bytes))))))
+    (cond (ltb (length bytes) (packetAt version)) next.Cut
+    (cond (not (inRange version boards bytes)) next.Wrong
+    (cond (ltb (length bytes) (packetAt version + sizeIn version bytes)) next.Cut
+    (next.Record (indexIn version bytes) (directionIn version bytes) (counterIn version bytes) (length bytes - packetAt version)
+    (length bytes - (packetAt version + sizeIn version bytes))))))
 
 -- the number of its refusal, where nothing stands behind these bytes
 abbrev pub nextNumber : NextRecord → ℕ

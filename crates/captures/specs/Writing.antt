@@ -1,4 +1,4 @@
--- Writing a capture, its head or one of its records: the bytes, or the refusal.
+-- Writing a capture of the newest version, its head or one of its records: the bytes, or the refusal.
 use Prim.Native.Nat.{ℕ, _%_}
 use mathlib.Core.Bool.{Bool, true, not, _&&_, _||_}
 use mathlib.Core.List.{List, [], _∷_}
@@ -8,7 +8,8 @@ use lib.Dec.{ltb, eqb}
 use lib.ListN.{length, take, drop}
 use Rattle.octets.specs.Octets.{overwrite, sum}
 use Rattle.framing.specs.Refusal.{Refusal, refusal, firstRefusal}
-use Rattle.captures.specs.Form.{Record, recordOf, recordBytes, boardsOf, headBytes, captureBytes, wrongCount, fieldsInRange}
+use Rattle.captures.specs.Form.{newest, Record, recordOf, recordBytes, boardsOf, headBytes, captureBytes, wrongCount, fieldsInRange}
+use Rattle.captures.specs.declared.Version.{Version}
 use Rattle.captures.specs.declared.writing.Written.{Written}
 use Rattle.captures.specs.declared.writing.Written.the-variants.{Length, Refused}
 
@@ -27,9 +28,9 @@ pub record Writes (refused : Option ℕ) (bytes buffer : List ℕ) (answer : Wri
   pub answered : answer ≡ writtenAs refused bytes
   pub held : after ≡ bufferAs refused buffer bytes
 
--- 52: the IDs are not 16 bytes each, or not those of 1 to 16 boards
-abbrev pub wrongIds : List ℕ → Bool
-wrongIds ids = not (eqb (length ids % 16) 0) || wrongCount (boardsOf ids)
+-- 52: the IDs are not 16 bytes each, or not those of 1 to as many boards as the version has
+abbrev pub wrongIds : Version → List ℕ → Bool
+wrongIds version ids = not (eqb (length ids % 16) 0) || wrongCount version (boardsOf ids)
 
 abbrev pub recordInRange : ℕ → Record → Bool
 recordInRange boards r = fieldsInRange boards (r .index) (r .direction) (length (r .packet))
@@ -48,12 +49,12 @@ headCall buffer ids = record { buffer = buffer; ids = ids }
 
 unfoldable pub headCallRefusals : List (Refusal HeadCall)
 headCallRefusals =
-    refusal 52 (λ (call : HeadCall). wrongIds (call .ids))
-    ∷ refusal 54 (λ (call : HeadCall). tooShort (call .buffer) (headBytes (call .ids)))
+    refusal 52 (λ (call : HeadCall). wrongIds newest (call .ids))
+    ∷ refusal 54 (λ (call : HeadCall). tooShort (call .buffer) (headBytes newest (call .ids)))
     ∷ []
 
 abbrev pub WritesHead : HeadCall → Written → List ℕ → Type 0
-WritesHead call answer after = Writes (firstRefusal headCallRefusals call) (headBytes (call .ids)) (call .buffer) answer after
+WritesHead call answer after = Writes (firstRefusal headCallRefusals call) (headBytes newest (call .ids)) (call .buffer) answer after
 
 -- what a call of `write_record` is given: the board count of the capture, and the record
 pub record RecordCall : Type 0 where
@@ -66,13 +67,13 @@ recordCall buffer boards given = record { buffer = buffer; boards = boards; give
 
 unfoldable pub recordCallRefusals : List (Refusal RecordCall)
 recordCallRefusals =
-    refusal 52 (λ (call : RecordCall). wrongCount (call .boards))
+    refusal 52 (λ (call : RecordCall). wrongCount newest (call .boards))
     ∷ refusal 53 (λ (call : RecordCall). not (recordInRange (call .boards) (call .given)))
-    ∷ refusal 54 (λ (call : RecordCall). tooShort (call .buffer) (recordBytes (call .given)))
+    ∷ refusal 54 (λ (call : RecordCall). tooShort (call .buffer) (recordBytes newest (call .given)))
     ∷ []
 
 abbrev pub WritesRecord : RecordCall → Written → List ℕ → Type 0
-WritesRecord call answer after = Writes (firstRefusal recordCallRefusals call) (recordBytes (call .given)) (call .buffer) answer after
+WritesRecord call answer after = Writes (firstRefusal recordCallRefusals call) (recordBytes newest (call .given)) (call .buffer) answer after
 
 -- what a call of `write` is given: the IDs one after another; index, direction, counter and length of the records side by side; their
 -- packets one after another
@@ -124,12 +125,12 @@ everyInRange boards [] = true
 everyInRange boards (r ∷ rs) = recordInRange boards r && everyInRange boards rs
 
 abbrev pub bytesGiven : WriteCall → List ℕ
-bytesGiven call = captureBytes (call .ids) (recordsGiven call)
+bytesGiven call = captureBytes newest (call .ids) (recordsGiven call)
 
 -- 53 is for slices that describe no records, and for a field outside its range
 unfoldable pub writeRefusals : List (Refusal WriteCall)
 writeRefusals =
-    refusal 52 (λ (call : WriteCall). wrongIds (call .ids))
+    refusal 52 (λ (call : WriteCall). wrongIds newest (call .ids))
     ∷ refusal 53 (λ (call : WriteCall). not (describesRecords (call .indexes) (call .directions) (call .counters) (call .lengths) (call .packets)))
     ∷ refusal 53 (λ (call : WriteCall). not (everyInRange (boardsOf (call .ids)) (recordsGiven call)))
     ∷ refusal 54 (λ (call : WriteCall). tooShort (call .buffer) (bytesGiven call))

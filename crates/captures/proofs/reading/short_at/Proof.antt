@@ -21,7 +21,7 @@ of-two-bytes-requires c κs = search needs
 returns : tie.Need-returns
 returns c =
     let start = c .before .before .before .before .args in
-    c .of-two-bytes .ensures ∙ sym (field-two (start .at) (now (start .bytes)) (search needs))
+    c .of-two-bytes .ensures ∙ sym (field-two (start .at) (now (start .bytes)))
 
 pub short-at-spec : {M : Type 1} → statement M
 short-at-spec =
