@@ -1,5 +1,6 @@
-// Writes a capture, or its head and its records one at a time, into a lent buffer, as `captures` defines their bytes.
+// Writes a capture of version 2, or its head and its records one at a time, into a lent buffer, as `captures` defines their bytes.
 use captures::writing::Written;
+use captures::Version;
 use framing::Check;
 ghost use mathlib.Core.Bool.{not};
 ghost use mathlib.Core.List.{_++_};
@@ -9,39 +10,41 @@ ghost use lib.Dec.{ltb};
 ghost use lib.ListN.{length};
 ghost use Rattle.octets.specs.Octets.{overwrite, Overwrites};
 ghost use Rattle.framing.specs.Refusal.{checked};
-ghost use Rattle.captures.specs.Form.{mark, version, indexSize, idsAt, packetAt, boardLimit, recordOf, recordBytes, recordsBytes, headBytes, boardsOf};
+ghost use Rattle.captures.specs.Form.{mark, versionNumber, newest, indexSize, idsAt, packetAt, boardLimit, recordOf, recordBytes, recordsBytes, headBytes, boardsOf};
 ghost use Rattle.captures.specs.Numbers.{bytesOf};
 ghost use Rattle.captures.specs.Writing.{wrongIds, headCall, WritesHead, recordCall, WritesRecord, recordList, SideBySide, describesRecords, everyInRange, writeCall, WritesCapture};
 
-// Refusal 52: IDs of 16 bytes each, of 1 to 16 boards.
+// Refusal 52: IDs of 16 bytes each, of 1 to 1,000 boards.
 fn check_ids(ids: &[u8]) -> Check
-    ensures { λ r. ⌜ r ≡ checked (wrongIds (now (ids .entry))) ⌝ }
+    ensures { λ r. ⌜ r ≡ checked (wrongIds newest (now (ids .entry))) ⌝ }
 {
     if ids.len() % framing::ID_SIZE != 0 {
         return Check::Failed;
     }
-    captures::check_count(ids.len() / framing::ID_SIZE)
+    captures::check_count(Version::Two, ids.len() / framing::ID_SIZE)
 }
 
 // What stands before the IDs.
 fn head_start(boards: usize) -> [u8; captures::IDS_AT]
-    requires { ⌜ boards ≤ boardLimit ⌝ }
-    ensures { λ r. ⌜ r ≡ mark ++ bytesOf 2 version ++ bytesOf indexSize boards ⌝ }
+    requires { ⌜ boards ≤ boardLimit newest ⌝ }
+    ensures { λ r. ⌜ r ≡ mark ++ bytesOf 2 (versionNumber newest) ++ bytesOf (indexSize newest) boards ⌝ }
 {
+    let version = captures::version_number(Version::Two);
     [
         b'V',
         b'L',
         b'G',
-        (captures::VERSION % 256) as u8,
-        (captures::VERSION / 256) as u8,
-        boards as u8,
+        (version % 256) as u8,
+        (version / 256) as u8,
+        (boards % 256) as u8,
+        (boards / 256) as u8,
     ]
 }
 
 // Puts the head into the first bytes of `buffer`, and says whether it fits.
 fn put_head(buffer: &mut [u8], ids: &[u8]) -> bool
-    requires { ⌜ boardsOf (now ids) ≤ boardLimit ⌝ }
-    ensures { λ r. ⌜ Overwrites (now (buffer .entry)) 0 (headBytes (now (ids .entry))) r (now (buffer .exit)) ⌝ }
+    requires { ⌜ boardsOf (now ids) ≤ boardLimit newest ⌝ }
+    ensures { λ r. ⌜ Overwrites (now (buffer .entry)) 0 (headBytes newest (now (ids .entry))) r (now (buffer .exit)) ⌝ }
 {
     let start = head_start(ids.len() / framing::ID_SIZE);
     octets::overwrite_pair(buffer, 0, &start, ids)
@@ -62,13 +65,14 @@ pub fn write_head(buffer: &mut [u8], ids: &[u8]) -> Written
 
 // What stands before the packet of a record.
 fn record_start(index: u16, direction: u8, counter: u32, size: usize) -> [u8; captures::PACKET_AT]
-    ensures { λ r. ⌜ r ≡ bytesOf indexSize index ++ bytesOf 1 direction ++ bytesOf 4 counter ++ bytesOf 2 size ⌝ }
+    ensures { λ r. ⌜ r ≡ bytesOf (indexSize newest) index ++ bytesOf 1 direction ++ bytesOf 4 counter ++ bytesOf 2 size ⌝ }
 {
     let second = counter / 256;
     let third = second / 256;
     let fourth = third / 256;
     [
         (index % 256) as u8,
+        (index / 256) as u8,
         direction,
         (counter % 256) as u8,
         (second % 256) as u8,
@@ -88,7 +92,7 @@ fn put_record(
     counter: u32,
     packet: &[u8],
 ) -> bool
-    ensures { λ r. ⌜ Overwrites (now (buffer .entry)) at (recordBytes (recordOf index direction counter (now (packet .entry)))) r (now (buffer .exit)) ⌝ }
+    ensures { λ r. ⌜ Overwrites (now (buffer .entry)) at (recordBytes newest (recordOf index direction counter (now (packet .entry)))) r (now (buffer .exit)) ⌝ }
 {
     let start = record_start(index, direction, counter, packet.len());
     octets::overwrite_pair(buffer, at, &start, packet)
@@ -106,7 +110,7 @@ pub fn write_record(
     ensures { λ r. ⌜ WritesRecord (recordCall (now (buffer .entry)) boards (recordOf index direction counter (now (packet .entry)))) r (now (buffer .exit)) ⌝ }
 {
     let count = octets::u16_to_usize(boards);
-    let Check::Passed = captures::check_count(count) else {
+    let Check::Passed = captures::check_count(Version::Two, count) else {
         return Written::Refused(52);
     };
     if !captures::in_range(count, index, direction, packet.len()) {
@@ -169,7 +173,7 @@ fn check_fields(
 
 // Refusal 54: the head, with so many bytes of IDs, and so many records, with so many bytes of packets, have room.
 fn check_room(room: usize, ids: usize, records: usize, packets: usize) -> Check
-    ensures { λ r. ⌜ r ≡ checked (ltb room (idsAt + ids + (packetAt * records + packets))) ⌝ }
+    ensures { λ r. ⌜ r ≡ checked (ltb room (idsAt newest + ids + (packetAt newest * records + packets))) ⌝ }
 {
     if room < captures::IDS_AT {
         return Check::Failed;
@@ -199,9 +203,9 @@ fn put_records(
     packets: &[u8],
 ) -> usize
     requires { ⌜ SideBySide (now indexes) (now directions) (now counters) (now lengths) ⌝ }
-    requires { ⌜ at + length (recordsBytes (recordList (now indexes) (now directions) (now counters) (now lengths) (now packets))) ≤ length (now buffer) ⌝ }
-    ensures { λ r. ⌜ r ≡ at + length (recordsBytes (recordList (now (indexes .entry)) (now (directions .entry)) (now (counters .entry)) (now (lengths .entry)) (now (packets .entry)))) ⌝ }
-    ensures { λ r. ⌜ now (buffer .exit) ≡ overwrite (now (buffer .entry)) at (recordsBytes (recordList (now (indexes .entry)) (now (directions .entry)) (now (counters .entry)) (now (lengths .entry)) (now (packets .entry)))) ⌝ }
+    requires { ⌜ at + length (recordsBytes newest (recordList (now indexes) (now directions) (now counters) (now lengths) (now packets))) ≤ length (now buffer) ⌝ }
+    ensures { λ r. ⌜ r ≡ at + length (recordsBytes newest (recordList (now (indexes .entry)) (now (directions .entry)) (now (counters .entry)) (now (lengths .entry)) (now (packets .entry)))) ⌝ }
+    ensures { λ r. ⌜ now (buffer .exit) ≡ overwrite (now (buffer .entry)) at (recordsBytes newest (recordList (now (indexes .entry)) (now (directions .entry)) (now (counters .entry)) (now (lengths .entry)) (now (packets .entry)))) ⌝ }
 {
     let mut place = at;
     let mut left = packets;

@@ -5,7 +5,7 @@ use mathlib.Core.List.{_++_}
 use mathlib.Core.Path.{_≡_, refl}
 use denote.Ref.{now}
 use lib.ListN.{length, drop, getD}
-use Rattle.captures.specs.Form.{packetAt, Record, recordOf, recordBytes, recordsBytes}
+use Rattle.captures.specs.Form.{newest, packetAt, Record, recordOf, recordBytes, recordsBytes}
 use Rattle.captures.specs.Writing.{recordList}
 use Rattle.captures.proofs.Buffers.{PutFrom, next-fits, put-on, put-all}
 use Rattle.captures.proofs.Lists.{length-record, listFrom, bytes-step, no-records}
@@ -16,7 +16,7 @@ use Rattle.recording.proofs.put_records.Tie as tie
 abbrev Inv-loop : tie.InvT-loop
 Inv-loop buffer₀ at indexes directions counters lengths packets place₀ left₀ i₀ buffer place left i =
     (i ≤ length indexes)
-    × PutFrom buffer₀ at (recordsBytes (recordList indexes directions counters lengths packets)) buffer place (recordsBytes (listFrom indexes directions counters lengths left i))
+    × PutFrom buffer₀ at (recordsBytes newest (recordList indexes directions counters lengths packets)) buffer place (recordsBytes newest (listFrom indexes directions counters lengths left i))
 
 abbrev μ-loop : tie.MeasureT-loop
 μ-loop buffer₀ at indexes directions counters lengths packets place₀ left₀ i₀ buffer place left i = length indexes - i
@@ -70,27 +70,27 @@ split :
     (c : tie.After-first-bytes Inv-loop μ-loop)
     → let v = at-loop c .loop in
     let start = at-loop c .before .before .before .before .before .before .before .args in
-    let after = recordsBytes (listFrom (now (start .indexes)) (now (start .directions)) (now (start .counters)) (now (start .lengths)) (drop (c .before .u16-to-usize .result) (now (v .left))) (v .i + 1)) in
-    recordsBytes (listFrom (now (start .indexes)) (now (start .directions)) (now (start .counters)) (now (start .lengths)) (now (v .left)) (v .i))
-    ≡ recordBytes (there c) ++ after
+    let after = recordsBytes newest (listFrom (now (start .indexes)) (now (start .directions)) (now (start .counters)) (now (start .lengths)) (drop (c .before .u16-to-usize .result) (now (v .left))) (v .i + 1)) in
+    recordsBytes newest (listFrom (now (start .indexes)) (now (start .directions)) (now (start .counters)) (now (start .lengths)) (now (v .left)) (v .i))
+    ≡ recordBytes newest (there c) ++ after
 split c =
     let v = at-loop c .loop in
     let start = at-loop c .before .before .before .before .before .before .before .args in
     bytes-step (now (start .indexes)) (now (start .directions)) (now (start .counters)) (now (start .lengths)) (now (v .left)) (v .i)
-    (omega arith) (at-loop c .before .before .before .before .before .before .before .pre .0) (c .before .u16-to-usize .ensures) (c .first-bytes .ensures)
+    (omega arith) (at-loop c .before .before .before .before .before .before .before .pre .0) (c .before .u16-to-usize .ensures) (c .first-bytes .ensures) newest
 
-size : (c : tie.After-first-bytes Inv-loop μ-loop) → length (recordBytes (there c)) ≡ packetAt + length (now (c .first-bytes .result))
-size c = length-record (there c)
+size : (c : tie.After-first-bytes Inv-loop μ-loop) → length (recordBytes newest (there c)) ≡ packetAt newest + length (now (c .first-bytes .result))
+size c = length-record newest (there c)
 
 add-place : tie.Need-add-place Inv-loop μ-loop
 add-place c =
     let k = c .before .before .before .before .before .before .before in
-    omega (arith, next-fits (recordBytes (there k)) _ (at-loop k .loop .inv .1) (split k), size k)
+    omega (arith, next-fits (recordBytes newest (there k)) _ (at-loop k .loop .inv .1) (split k), size k)
 
 add-place-2 : tie.Need-add-place-2 Inv-loop μ-loop
 add-place-2 c =
     let k = c .before .before .before .before .before .before .before in
-    omega (arith, next-fits (recordBytes (there k)) _ (at-loop k .loop .inv .1) (split k), size k)
+    omega (arith, next-fits (recordBytes newest (there k)) _ (at-loop k .loop .inv .1) (split k), size k)
 
 bytes-after-requires : tie.Need-bytes-after-requires Inv-loop μ-loop
 bytes-after-requires c κs = tt
@@ -105,8 +105,8 @@ loop-again : tie.Need-loop-again Inv-loop μ-loop
 loop-again c =
     let k = c .before .before .before .before .before .before .before .before in
     let v = at-loop k .loop in
-    let next : v .place + packetAt + length (now (k .first-bytes .result)) ≡ v .place + length (recordBytes (there k)) = omega (arith, size k) in
-    (omega arith, rw (c .bytes-after .ensures) (put-on (recordBytes (there k)) _ (v .inv .1) (split k) next (c .before .before .before .put-record .ensures)))
+    let next : v .place + packetAt newest + length (now (k .first-bytes .result)) ≡ v .place + length (recordBytes newest (there k)) = omega (arith, size k) in
+    (omega arith, rw (c .bytes-after .ensures) (put-on (recordBytes newest (there k)) _ (v .inv .1) (split k) next (c .before .before .before .put-record .ensures)))
 
 same-length : tie.Need-same-length Inv-loop μ-loop
 same-length c = c .before .loop .inv .1 .same-room
@@ -115,7 +115,7 @@ returns : tie.Need-returns Inv-loop μ-loop
 returns c =
     let start = c .before .before .before .before .before .before .before .before .args in
     let v = c .before .loop in
-    put-all (v .inv .1) (no-records (now (start .indexes)) (now (start .directions)) (now (start .counters)) (now (start .lengths)) (now (v .left)) (v .i) (omega arith))
+    put-all (v .inv .1) (no-records (now (start .indexes)) (now (start .directions)) (now (start .counters)) (now (start .lengths)) (now (v .left)) (v .i) newest (omega arith))
 
 pub put-records-spec : {M : Type 1} → statement M
 put-records-spec =

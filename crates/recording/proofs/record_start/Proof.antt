@@ -1,9 +1,8 @@
 -- `recording::record_start` meets its contract.
 use native.Mathlib.Omega.{arith}
-use Prim.Native.Nat.{_%_}
+use Prim.Native.Nat.{_/_, _%_}
 use mathlib.Core.List.{[], _∷_, _++_}
 use mathlib.Core.Path.{_≡_}
-use Rattle.captures.specs.Form.{indexSize}
 use Rattle.captures.specs.Numbers.{bytesOf}
 use borrow.Author.Needs.{needs}
 use Rattle.recording.proofs.record_start.Statement.{statement}
@@ -27,15 +26,21 @@ cast-t17 c = search needs
 cast-t19 : tie.Need-cast-t19
 cast-t19 c = search needs
 
-cast-t22 : tie.Need-cast-t22
-cast-t22 c = search needs
+cast-t21 : tie.Need-cast-t21
+cast-t21 c = search needs
+
+cast-t24 : tie.Need-cast-t24
+cast-t24 c = search needs
 
 returns : tie.Need-returns
 unfolding bytesOf
 returns c =
+    let index = c .args .index in
+    let high : index / 256 ≡ index / 256 % 256 = omega arith in
     let small : c .args .direction ≡ c .args .direction % 256 = omega arith in
-    λ i. bytesOf indexSize (c .args .index) ++ (small i ∷ []) ++ bytesOf 4 (c .args .counter) ++ bytesOf 2 (c .args .size)
+    λ i. index % 256 ∷ high i ∷ small i ∷ bytesOf 4 (c .args .counter) ++ bytesOf 2 (c .args .size)
 
 pub record-start-spec : {M : Type 1} → statement M
 record-start-spec =
-    tie.close (tie.spec cast-t9 cast-t11 cast-t13 cast-t15 cast-t17 cast-t19 cast-t22 returns)
+    tie.close
+    (tie.spec cast-t9 cast-t11 cast-t13 cast-t15 cast-t17 cast-t19 cast-t21 cast-t24 returns)

@@ -8,6 +8,7 @@ use denote.Ref.{now}
 use lib.ListN.{drop}
 use Rattle.framing.specs.Refusal.{firstRefusal}
 use Rattle.framing.proofs.Refusals.{passed, failed, refused-first, goes-on, ends-here}
+use Rattle.captures.specs.Form.{newest}
 use Rattle.captures.specs.Writing.{WriteCall, writeCall, bytesGiven, tooShort, writeRefusals, writeRefusal}
 use Rattle.captures.proofs.Buffers.{passed-last, refused-as, written-as}
 use Rattle.captures.proofs.Calls.{Judged, room-asked, records-fit, all-put}
@@ -51,7 +52,7 @@ judged c =
     let k = c .before .before .before in
     let told = described (call-3 c .indexes) (call-3 c .directions) (call-3 c .counters) (call-3 c .lengths) (call-3 c .packets) (not-false _ (passed _ (k .before .before .check-list .ensures) (k .enum-told3 .given .1))) in
     record {
-      few = few-boards (call-3 c .ids) (passed _ (k .before .before .before .before .before .check-ids .ensures) (k .before .before .before .enum-told .given .1));
+      few = few-boards newest (call-3 c .ids) (passed _ (k .before .before .before .before .before .check-ids .ensures) (k .before .before .before .enum-told .given .1));
       counts = told .0;
       adds-up = told .1;
       left = goes-on _ _ _ (after-2 k) (c .before .before .check-fields .ensures) (c .enum-told5 .given .1);

@@ -6,6 +6,7 @@ use denote.Ref.{now}
 use lib.ListN.{drop}
 use Rattle.framing.specs.Refusal.{firstRefusal}
 use Rattle.framing.proofs.Refusals.{passed, refused-first, left-after, ends-here}
+use Rattle.captures.specs.Form.{newest}
 use Rattle.captures.specs.Writing.{wrongIds, HeadCall, headCall, headCallRefusals}
 use Rattle.captures.proofs.Buffers.{passed-last, refused-as, written-as, put, not-put}
 use Rattle.captures.proofs.Lists.{length-head, few-boards}
@@ -17,7 +18,7 @@ abbrev asked : tie.Start → HeadCall
 asked c = headCall (now (c .args .buffer)) (now (c .args .ids))
 
 -- after 52
-right-ids : (c : tie.After-enum-told) → wrongIds (asked (c .before .before .before .before .before) .ids) ≡ false
+right-ids : (c : tie.After-enum-told) → wrongIds newest (asked (c .before .before .before .before .before) .ids) ≡ false
 right-ids c = passed _ (c .before .before .check-ids .ensures) (c .enum-told .given .1)
 
 after-1 : (c : tie.After-enum-told) → firstRefusal headCallRefusals (asked (c .before .before .before .before .before)) ≡ firstRefusal (drop 1 headCallRefusals) (asked (c .before .before .before .before .before))
@@ -38,7 +39,7 @@ unfolding headCallRefusals
 returns c = refused-as (ends-here _ _ _ refl (c .before .before .check-ids .ensures) (c .enum-told2 .given .1)) refl
 
 put-head-requires : tie.Need-put-head-requires
-put-head-requires c κs = few-boards (now (c .before .before .before .before .before .before .args .ids)) (right-ids (c .before))
+put-head-requires c κs = few-boards newest (now (c .before .before .before .before .before .before .args .ids)) (right-ids (c .before))
 
 same-length : tie.Need-same-length
 same-length c = search needs
@@ -59,7 +60,7 @@ returns-3 : tie.Need-returns-3
 unfolding headCallRefusals
 returns-3 c =
     let told = put (c .before .before .before .put-head .ensures) (not-false _ (c .if1 .left)) in
-    written-as (passed-last _ _ (after-1 (c .before .before .before .before .before)) (told .0)) (sym (length-head (asked (c .before .before .before .before .before .before .before .before .before .before) .ids))) (told .1)
+    written-as (passed-last _ _ (after-1 (c .before .before .before .before .before)) (told .0)) (sym (length-head newest (asked (c .before .before .before .before .before .before .before .before .before .before) .ids))) (told .1)
 
 pub write-head-spec : {M : Type 1} → statement M
 write-head-spec =

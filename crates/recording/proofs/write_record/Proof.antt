@@ -6,7 +6,7 @@ use denote.Ref.{now}
 use lib.ListN.{length, drop}
 use Rattle.framing.specs.Refusal.{firstRefusal, checked}
 use Rattle.framing.proofs.Refusals.{refused-first, left-after, goes-on, ends-here}
-use Rattle.captures.specs.Form.{recordOf, wrongCount, fieldsInRange}
+use Rattle.captures.specs.Form.{newest, recordOf, wrongCount, fieldsInRange}
 use Rattle.captures.specs.Writing.{RecordCall, recordCall, recordInRange, recordCallRefusals}
 use Rattle.captures.proofs.Buffers.{passed-last, refused-as, written-as, put, not-put}
 use Rattle.captures.proofs.Lists.{length-record}
@@ -21,8 +21,8 @@ asked c =
 abbrev call-1 : tie.After-enum-told → RecordCall
 call-1 c = asked (c .before .before .before .before .before .before)
 
-count-told : (c : tie.After-check-count) → c .check-count .result ≡ checked (wrongCount (asked (c .before .before .before .before) .boards))
-count-told c = c .check-count .ensures ∙ ap (λ n. checked (wrongCount n)) (c .before .u16-to-usize .ensures)
+count-told : (c : tie.After-check-count) → c .check-count .result ≡ checked (wrongCount newest (asked (c .before .before .before .before) .boards))
+count-told c = c .check-count .ensures ∙ ap (λ n. checked (wrongCount newest n)) (c .before .u16-to-usize .ensures)
 
 after-1 : (c : tie.After-enum-told) → firstRefusal recordCallRefusals (call-1 c) ≡ firstRefusal (drop 1 recordCallRefusals) (call-1 c)
 unfolding recordCallRefusals
@@ -73,8 +73,8 @@ returns-3 c =
     let short = not-put (c .before .before .before .put-record .ensures) (not-true (c .before .before .before .put-record .result) (c .if2 .taken)) in
     refused-as (after-2 (c .before .before .before .before .before) ∙ refused-first _ _ (call-1 (c .before .before .before .before .before .before .before)) (short .0)) (short .1)
 
-add-t14 : tie.Need-add-t14
-add-t14 c = search needs
+add-t15 : tie.Need-add-t15
+add-t15 c = search needs
 
 same-length-2 : tie.Need-same-length-2
 same-length-2 c = search needs
@@ -83,7 +83,7 @@ returns-4 : tie.Need-returns-4
 unfolding recordCallRefusals
 returns-4 c =
     let told = put (c .before .before .before .put-record .ensures) (not-false _ (c .if2 .left)) in
-    written-as (passed-last _ _ (after-2 (c .before .before .before .before .before)) (told .0)) (sym (length-record (call-1 (c .before .before .before .before .before .before .before) .given))) (told .1)
+    written-as (passed-last _ _ (after-2 (c .before .before .before .before .before)) (told .0)) (sym (length-record newest (call-1 (c .before .before .before .before .before .before .before) .given))) (told .1)
 
 pub write-record-spec : {M : Type 1} → statement M
 write-record-spec =
@@ -99,6 +99,6 @@ write-record-spec =
     put-record-requires
     same-length
     returns-3
-    add-t14
+    add-t15
     same-length-2
     returns-4)
