@@ -8,6 +8,7 @@ use borrow.Author.Tests.{le-leb}
 use lib.ListN.{length, take, drop, getD, length-drop, length-set}
 use lib.Seq.{take-all}
 use Rattle.block.specs.Reading.{partOf}
+use Rattle.captures.specs.declared.Version.{Version}
 use Rattle.captures.specs.declared.reading.NextRecord.{NextRecord}
 use Rattle.captures.specs.declared.reading.NextRecord.the-variants as next
 use Rattle.captures.specs.Form.{Record, recordOf}
@@ -19,19 +20,19 @@ use Rattle.counts.specs.Counting.{place, more, counted, countedOne, endO
 use Rattle.counts.specs.declared.counting.Ending.the-variants.{Left, Wrong}
 
 -- counts and ending of what is left are those of the whole
-pub record Same (boards : ℕ) (bytes before rest now : List ℕ) : Type 0 where
-  pub ending : endOf (read boards bytes) ≡ endOf (read boards rest)
-  pub counts : counted before (recordsOf (read boards bytes)) ≡ counted now (recordsOf (read boards rest))
+pub record Same (version : Version) (boards : ℕ) (bytes before rest now : List ℕ) : Type 0 where
+  pub ending : endOf (read version boards bytes) ≡ endOf (read version boards rest)
+  pub counts : counted before (recordsOf (read version boards bytes)) ≡ counted now (recordsOf (read version boards rest))
   pub as-many : length now ≡ length before
 
-module _ (boards : ℕ) (rest : List ℕ) where
-  by-next : {found : NextRecord} → nextRecord boards rest ≡ found → read boards rest ≡ readAfter (read boards) rest found
-  by-next e = read-step boards rest ∙ ap (readAfter (read boards) rest) e
+module _ (version : Version) (boards : ℕ) (rest : List ℕ) where
+  by-next : {found : NextRecord} → nextRecord version boards rest ≡ found → read version boards rest ≡ readAfter (read version boards) rest found
+  by-next e = read-step version boards rest ∙ ap (readAfter (read version boards) rest) e
 
   -- no record is left: the contract
   ends :
-      {bytes before now : List ℕ} (last : Reading) → read boards rest ≡ last → recordsOf last ≡ [] → Same boards bytes before rest now
-      → Counts boards bytes before (endOf last) now
+      {bytes before now : List ℕ} (last : Reading) → read version boards rest ≡ last → recordsOf last ≡ [] → Same version boards bytes before rest now
+      → Counts version boards bytes before (endOf last) now
   unfolding counted
   ends {bytes} {before} {now} last e none so-far =
       record {
@@ -39,22 +40,22 @@ module _ (boards : ℕ) (rest : List ℕ) where
         held = sym (so-far .counts ∙ ap (λ (r : Reading). counted now (recordsOf r)) e ∙ ap (counted now) none);
       }
 
-  module _ {bytes before now : List ℕ} (so-far : Same boards bytes before rest now) where
-    pub ended : nextRecord boards rest ≡ next.End → Counts boards bytes before (Left 0) now
+  module _ {bytes before now : List ℕ} (so-far : Same version boards bytes before rest now) where
+    pub ended : nextRecord version boards rest ≡ next.End → Counts version boards bytes before (Left 0) now
     unfolding endOf recordsOf
     ended e = ends (left []) (by-next e) refl so-far
 
-    pub cut : nextRecord boards rest ≡ next.Cut → Counts boards bytes before (Left (length rest)) now
+    pub cut : nextRecord version boards rest ≡ next.Cut → Counts version boards bytes before (Left (length rest)) now
     unfolding endOf recordsOf
     cut e = ends (left rest) (by-next e) refl so-far
 
-    pub outside : nextRecord boards rest ≡ next.Wrong → Counts boards bytes before Wrong now
+    pub outside : nextRecord version boards rest ≡ next.Wrong → Counts version boards bytes before Wrong now
     unfolding endOf recordsOf
     outside e = ends wrong (by-next e) refl so-far
 
-  module _ {index direction counter packet after : ℕ} (e : nextRecord boards rest ≡ next.Record index direction counter packet after) where
+  module _ {index direction counter packet after : ℕ} (e : nextRecord version boards rest ≡ next.Record index direction counter packet after) where
     in-place : Placed rest packet after
-    in-place = placed boards rest e
+    in-place = placed version boards rest e
 
     abbrev found : Record
     found = recordOf index direction counter (partOf packet after rest)
@@ -67,10 +68,10 @@ module _ (boards : ℕ) (rest : List ℕ) where
         rw (le-leb after (length rest) (omega (arith, in-place .shorter)), le-leb 0 after (omega arith), sub-zero after)
         (sym (take-all after (drop (length rest - after) rest) (simp length-drop (omega (arith, in-place .shorter)))))
 
-    read-on : read boards rest ≡ item found (read boards (partOf after 0 rest))
-    read-on = by-next e ∙ λ i. item (recordOf index direction counter (packet-part i)) (read boards (rest-part i))
+    read-on : read version boards rest ≡ item found (read version boards (partOf after 0 rest))
+    read-on = by-next e ∙ λ i. item (recordOf index direction counter (packet-part i)) (read version boards (rest-part i))
 
-    pub same-on : {bytes before now : List ℕ} → Same boards bytes before rest now → Same boards bytes before (partOf after 0 rest) (countedOne now found)
+    pub same-on : {bytes before now : List ℕ} → Same version boards bytes before rest now → Same version boards bytes before (partOf after 0 rest) (countedOne now found)
     unfolding endOf recordsOf counted
     same-on {bytes} {before} {now} so-far =
         record {

@@ -1,14 +1,6 @@
 pub mod Judged
 pub mod Counted
-pub mod Decimals
-pub mod Each
-pub mod Lines
-pub mod Shown
 pub mod Numbers
 pub mod Pairs
-pub mod Summaries
 pub mod Pieces
-pub mod ReadDecimals
 pub mod Moving
-pub mod TextSize
-pub mod Windows

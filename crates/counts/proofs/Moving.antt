@@ -10,9 +10,13 @@ use lib.Dec.{leb}
 use lib.ListN.{length, take, drop, getD, set, length-set, length-drop, drop-of-length-le, take-append-drop}
 use lib.Seq.{take-suc, take-suc-set, getD-drop, drop-set-lt, drop-drop, drop-length, length-take-le}
 use Rattle.octets.specs.Octets.{overwrite}
-use Rattle.captures.specs.Reading.{Reading, left, wrong, item, read}
+use Rattle.captures.specs.Form.{packetAt}
+use Rattle.captures.specs.Reading.{indexIn, directionIn, sizeIn, Reading, left, wrong, item, read}
+use Rattle.captures.specs.declared.Version.{Version}
+use Rattle.captures.proofs.Ranges.{ranges}
 use Rattle.captures.proofs.Readings.{of-readings}
 use Rattle.counts.specs.Counting.{endOf, leftOf, Counts, windowPart, CountsWindow}
+use Rattle.counts.specs.Statements.{LeftShort}
 use Rattle.counts.specs.declared.counting.Ending.{Ending}
 use Rattle.counts.specs.declared.counting.Ending.the-variants.{Left, Wrong}
 
@@ -76,9 +80,9 @@ ends-more b {s} {rest} e =
     let next : length (b ∷ s) - length rest ≡ suc (length s - length rest) = omega (arith, e .within) in
     record { within = omega (arith, e .within); stands = ap (λ (n : ℕ). drop n (b ∷ s)) next ∙ e .stands }
 
-left-ends : (boards : ℕ) (bytes : List ℕ) → Ends bytes (leftOf (read boards bytes))
+left-ends : (version : Version) (boards : ℕ) (bytes : List ℕ) → Ends bytes (leftOf (read version boards bytes))
 unfolding leftOf
-left-ends boards bytes =
+left-ends version boards bytes =
     of-readings (λ (l : List ℕ) (r : Reading). Ends l (leftOf r))
     (record {
       none-left = ends-whole [];
@@ -87,6 +91,21 @@ left-ends boards bytes =
       out-of-range = λ l. ends-none l;
       packet-cut = λ l right few. ends-whole l;
       whole = λ b s r right h. ends-more b h;
+    })
+    bytes 0
+
+-- and shorter than the longest record
+pub left-short : LeftShort
+unfolding leftOf
+left-short version boards bytes =
+    of-readings (λ (l : List ℕ) (r : Reading). length (leftOf r) < packetAt version + 256)
+    (record {
+      none-left = omega arith;
+      passed-over = λ b s r h. h;
+      head-cut = λ l few. omega arith;
+      out-of-range = λ l. omega arith;
+      packet-cut = λ l right few. omega (arith, ranges boards (indexIn version l) (directionIn version l) (sizeIn version l) right);
+      whole = λ b s r right h. h;
     })
     bytes 0
 
@@ -150,32 +169,32 @@ module _ (start end : ℕ) (window rest : List ℕ) (e : Ends (windowPart start 
 
 -- what `count` answered of that part
 module _
-    (boards start end : ℕ) (window : List ℕ) {filled part counts after : List ℕ} {answer : Ending}
-    (front : filled ≡ take end window) (cut : part ≡ drop start filled) (done : Counts boards part counts answer after)
+    (version : Version) (boards start end : ℕ) (window : List ℕ) {filled part counts after : List ℕ} {answer : Ending}
+    (front : filled ≡ take end window) (cut : part ≡ drop start filled) (done : Counts version boards part counts answer after)
   where
     abbrev rest : List ℕ
-    rest = leftOf (read boards (windowPart start end window))
+    rest = leftOf (read version boards (windowPart start end window))
 
-    counted-part : Counts boards (windowPart start end window) counts answer after
+    counted-part : Counts version boards (windowPart start end window) counts answer after
     counted-part = rw (cut ∙ ap (drop start) front) at done
 
     rest-ends : Ends (windowPart start end window) rest
-    rest-ends = left-ends boards (windowPart start end window)
+    rest-ends = left-ends version boards (windowPart start end window)
 
     size-told : {size : ℕ} → answer ≡ Left size → length rest ≡ size
-    size-told e = left-size (read boards (windowPart start end window)) (sym (counted-part .answered) ∙ e)
+    size-told e = left-size (read version boards (windowPart start end window)) (sym (counted-part .answered) ∙ e)
 
     pub left-within : {size : ℕ} → answer ≡ Left size → size ≤ length filled
     left-within e = omega (arith, size-told e, ap length front, rest-within start end window rest rest-ends)
 
-    pub stopped : answer ≡ Wrong → CountsWindow boards start end window counts answer after window
+    pub stopped : answer ≡ Wrong → CountsWindow version boards start end window counts answer after window
     stopped e =
-        let nothing = left-none (read boards (windowPart start end window)) (sym (counted-part .answered) ∙ e) in
+        let nothing = left-none (read version boards (windowPart start end window)) (sym (counted-part .answered) ∙ e) in
         record { counts = counted-part; kept = overwrite-none window ∙ ap (overwrite window 0) (sym nothing) }
 
     pub kept-left :
         {size : ℕ} {moved : List ℕ} → answer ≡ Left size → moved ≡ overwrite window 0 (take size (drop (length filled - size) window))
-        → CountsWindow boards start end window counts (Left size) after moved
+        → CountsWindow version boards start end window counts (Left size) after moved
     kept-left {size} {moved} e h =
         let size-is = size-told e in
         record {

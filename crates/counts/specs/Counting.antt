@@ -8,6 +8,7 @@ use lib.ListN.{length, take, drop, getD, set}
 use Rattle.octets.specs.Octets.{overwrite}
 use Rattle.captures.specs.Form.{Record}
 use Rattle.captures.specs.Reading.{Reading, left, wrong, item, read, recordsOf}
+use Rattle.captures.specs.declared.Version.{Version}
 use Rattle.counts.specs.Judging.{judged}
 use Rattle.counts.specs.declared.counting.Ending.{Ending}
 use Rattle.counts.specs.declared.counting.Ending.the-variants.{Left, Wrong}
@@ -64,15 +65,15 @@ endingNumber (Left size) = cond (eqb size 0) 0 53
 endingNumber Wrong = 53
 
 -- the contract of `count`
-pub record Counts (boards : ℕ) (bytes before : List ℕ) (answer : Ending) (after : List ℕ) : Type 0 where
-  pub answered : answer ≡ endOf (read boards bytes)
-  pub held : after ≡ counted before (recordsOf (read boards bytes))
+pub record Counts (version : Version) (boards : ℕ) (bytes before : List ℕ) (answer : Ending) (after : List ℕ) : Type 0 where
+  pub answered : answer ≡ endOf (read version boards bytes)
+  pub held : after ≡ counted before (recordsOf (read version boards bytes))
 
 -- what stands in a window from `start` to `end`
 abbrev pub windowPart : ℕ → ℕ → List ℕ → List ℕ
 windowPart start end window = drop start (take end window)
 
 -- the contract of `count_window`: the records of a part of the window are counted, and the bytes that are left put at its start
-pub record CountsWindow (boards start end : ℕ) (window before : List ℕ) (answer : Ending) (after moved : List ℕ) : Type 0 where
-  pub counts : Counts boards (windowPart start end window) before answer after
-  pub kept : moved ≡ overwrite window 0 (leftOf (read boards (windowPart start end window)))
+pub record CountsWindow (version : Version) (boards start end : ℕ) (window before : List ℕ) (answer : Ending) (after moved : List ℕ) : Type 0 where
+  pub counts : Counts version boards (windowPart start end window) before answer after
+  pub kept : moved ≡ overwrite window 0 (leftOf (read version boards (windowPart start end window)))

@@ -1,4 +1,3 @@
 pub mod Judging
 pub mod Counting
-pub mod Text
 pub mod Statements

@@ -1,4 +1,5 @@
 // Counts the records of a capture.
+use captures::Version;
 use captures::reading::NextRecord;
 ghost use mathlib.Core.Path.{_≡_};
 ghost use Prim.Native.Nat.{_+_, _*_};
@@ -36,13 +37,13 @@ fn count_one(counts: &mut [u64], at: usize)
     }
 }
 
-// Counts the records of these bytes of a capture of so many boards, and says how they end.
-pub fn count(counts: &mut [u64], bytes: &[u8], boards: u16) -> Ending
-    ensures { λ r. ⌜ Counts boards (now (bytes .entry)) (now (counts .entry)) r (now (counts .exit)) ⌝ }
+// Counts the records of these bytes of a capture of this version and of so many boards, and says how they end.
+pub fn count(counts: &mut [u64], bytes: &[u8], version: Version, boards: u16) -> Ending
+    ensures { λ r. ⌜ Counts version boards (now (bytes .entry)) (now (counts .entry)) r (now (counts .exit)) ⌝ }
 {
     let mut rest = bytes;
     loop {
-        match captures::reading::next_record(rest, boards) {
+        match captures::reading::next_record(rest, version, boards) {
             NextRecord::End => return Ending::Left(0),
             NextRecord::Cut => return Ending::Left(rest.len()),
             NextRecord::Wrong => return Ending::Wrong,

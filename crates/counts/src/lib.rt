@@ -1,5 +1,4 @@
-// Counts the packets of a capture by board and refusal, and writes the counts as text.
+// Counts the packets of a capture by board and refusal.
 pub mod counting;
 pub mod judging;
-pub mod text;
 pub mod window;

@@ -1,5 +1,6 @@
 // Counts the records of a capture that is read through a window.
 use super::counting::Ending;
+use captures::Version;
 ghost use mathlib.Core.Path.{_≡_};
 ghost use Prim.Native.Nat.{_+_, _≤_};
 ghost use lib.ListN.{length, take, drop};
@@ -25,13 +26,19 @@ pub fn count_window(
     window: &mut [u8],
     start: usize,
     end: usize,
+    version: Version,
     boards: u16,
 ) -> Ending
-    ensures { λ r. ⌜ CountsWindow boards start end (now (window .entry)) (now (counts .entry)) r (now (counts .exit)) (now (window .exit)) ⌝ }
+    ensures { λ r. ⌜ CountsWindow version boards start end (now (window .entry)) (now (counts .entry)) r (now (counts .exit)) (now (window .exit)) ⌝ }
 {
     let filled = octets::first_bytes(window, end);
     let until = filled.len();
-    let ending = super::counting::count(counts, octets::bytes_after(filled, start), boards);
+    let ending = super::counting::count(
+        counts,
+        octets::bytes_after(filled, start),
+        version,
+        boards,
+    );
     let Ending::Left(left) = ending else {
         return ending;
     };

@@ -10,10 +10,10 @@ use Rattle.counts.proofs.counting.count.Statement.{statement}
 use Rattle.counts.proofs.counting.count.Tie as tie
 
 abbrev Inv-loop : tie.InvT-loop
-Inv-loop counts₀ bytes boards rest₀ counts rest = Same boards bytes counts₀ rest counts
+Inv-loop counts₀ bytes version boards rest₀ counts rest = Same version boards bytes counts₀ rest counts
 
 abbrev μ-loop : tie.MeasureT-loop
-μ-loop counts₀ bytes boards rest₀ counts rest = length rest
+μ-loop counts₀ bytes version boards rest₀ counts rest = length rest
 
 loop-holds : tie.Need-loop-holds Inv-loop μ-loop
 loop-holds c = record { ending = refl; counts = refl; as-many = refl }
@@ -31,7 +31,7 @@ returns : tie.Need-returns Inv-loop μ-loop
 returns c =
     let k = c .before .before in
     let v = k .before .loop in
-    ended (k .before .before .before .before .args .boards) (v .rest .now) (v .inv) (sym (k .next-record .ensures) ∙ c .enum-told .given .1)
+    ended (k .before .before .before .before .args .version) (k .before .before .before .before .args .boards) (v .rest .now) (v .inv) (sym (k .next-record .ensures) ∙ c .enum-told .given .1)
 
 enum-told-2 : tie.Need-enum-told-2 Inv-loop μ-loop
 enum-told-2 c = search needs
@@ -43,7 +43,7 @@ returns-2 : tie.Need-returns-2 Inv-loop μ-loop
 returns-2 c =
     let k = c .before .before in
     let v = k .before .loop in
-    cut (k .before .before .before .before .args .boards) (v .rest .now) (v .inv) (sym (k .next-record .ensures) ∙ c .enum-told2 .given .1)
+    cut (k .before .before .before .before .args .version) (k .before .before .before .before .args .boards) (v .rest .now) (v .inv) (sym (k .next-record .ensures) ∙ c .enum-told2 .given .1)
 
 enum-told-3 : tie.Need-enum-told-3 Inv-loop μ-loop
 enum-told-3 c = search needs
@@ -55,7 +55,7 @@ returns-3 : tie.Need-returns-3 Inv-loop μ-loop
 returns-3 c =
     let k = c .before .before in
     let v = k .before .loop in
-    outside (k .before .before .before .before .args .boards) (v .rest .now) (v .inv) (sym (k .next-record .ensures) ∙ c .enum-told3 .given .1)
+    outside (k .before .before .before .before .args .version) (k .before .before .before .before .args .boards) (v .rest .now) (v .inv) (sym (k .next-record .ensures) ∙ c .enum-told3 .given .1)
 
 enum-known-index : tie.Need-enum-known-index Inv-loop μ-loop
 enum-known-index c = search needs
@@ -80,7 +80,7 @@ loop-less c =
     let k = c .before .before .before .before .before .before .before .before .before .before .before in
     let v = k .before .loop in
     let told = c .before .before .before .before .before .before .before .before .before .index in
-    rw (c .part2 .ensures) (shorter (k .before .before .before .before .args .boards) (v .rest .now) (sym (k .next-record .ensures) ∙ told .given .1))
+    rw (c .part2 .ensures) (shorter (k .before .before .before .before .args .version) (k .before .before .before .before .args .boards) (v .rest .now) (sym (k .next-record .ensures) ∙ told .given .1))
 
 loop-again : tie.Need-loop-again Inv-loop μ-loop
 loop-again c =
@@ -90,7 +90,7 @@ loop-again c =
     let number = c .before .before .before .before .before .before .judge .ensures ∙ ap (judged (told .given .0 .1 .0)) (c .before .before .before .before .before .before .before .part .ensures) in
     let at = c .before .before .before .before .place .ensures ∙ ap (λ (n : ℕ). placeOf (told .given .0 .0) n) number in
     rw (c .part2 .ensures, c .before .before .before .count-one .ensures, at)
-    (same-on (k .before .before .before .before .args .boards) (v .rest .now) (sym (k .next-record .ensures) ∙ told .given .1) (v .inv))
+    (same-on (k .before .before .before .before .args .version) (k .before .before .before .before .args .boards) (v .rest .now) (sym (k .next-record .ensures) ∙ told .given .1) (v .inv))
 
 pub count-spec : {M : Type 1} → statement M
 count-spec =

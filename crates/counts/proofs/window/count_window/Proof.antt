@@ -34,21 +34,21 @@ returns c =
     let done = c .before .before .before .before in
     let filled = done .before .before .before in
     let given = filled .before .before .before .before .args in
-    stopped (given .boards) (given .start) (given .end) (now (given .window)) (filled .first-bytes .ensures) (done .before .bytes-after .ensures) (done .count .ensures) (c .enum-told .given .1)
+    stopped (given .version) (given .boards) (given .start) (given .end) (now (given .window)) (filled .first-bytes .ensures) (done .before .bytes-after .ensures) (done .count .ensures) (c .enum-told .given .1)
 
 sub-move-to-start : tie.Need-sub-move-to-start
 sub-move-to-start c =
     let done = c .before .before .before .before .before .before in
     let filled = done .before .before .before in
     let given = filled .before .before .before .before .args in
-    left-within (given .boards) (given .start) (given .end) (now (given .window)) (filled .first-bytes .ensures) (done .before .bytes-after .ensures) (done .count .ensures) (c .before .before .ending .given .1)
+    left-within (given .version) (given .boards) (given .start) (given .end) (now (given .window)) (filled .first-bytes .ensures) (done .before .bytes-after .ensures) (done .count .ensures) (c .before .before .ending .given .1)
 
 move-to-start-requires : tie.Need-move-to-start-requires
 move-to-start-requires c κs =
     let done = c .before .before .before .before .before .before in
     let filled = done .before .before .before in
     let given = filled .before .before .before .before .args in
-    let within = left-within (given .boards) (given .start) (given .end) (now (given .window)) (filled .first-bytes .ensures) (done .before .bytes-after .ensures) (done .count .ensures) (c .before .before .ending .given .1) in
+    let within = left-within (given .version) (given .boards) (given .start) (given .end) (now (given .window)) (filled .first-bytes .ensures) (done .before .bytes-after .ensures) (done .count .ensures) (c .before .before .ending .given .1) in
     omega (arith, ap length (filled .first-bytes .ensures), length-take (given .end) (now (given .window)))
 
 same-length-3 : tie.Need-same-length-3
@@ -62,7 +62,7 @@ returns-2 c =
     let done = c .before .before .before .before .before .before .before .before .before in
     let filled = done .before .before .before in
     let given = filled .before .before .before .before .args in
-    kept-left (given .boards) (given .start) (given .end) (now (given .window)) (filled .first-bytes .ensures) (done .before .bytes-after .ensures) (done .count .ensures) (c .before .before .before .before .before .ending .given .1) (c .before .before .move-to-start .ensures)
+    kept-left (given .version) (given .boards) (given .start) (given .end) (now (given .window)) (filled .first-bytes .ensures) (done .before .bytes-after .ensures) (done .count .ensures) (c .before .before .before .before .before .ending .given .1) (c .before .before .move-to-start .ensures)
 
 pub count-window-spec : {M : Type 1} → statement M
 count-window-spec =

@@ -1,0 +1,9 @@
+pub mod Decimals
+pub mod Each
+pub mod Lines
+pub mod Shown
+pub mod Summaries
+pub mod Pieces
+pub mod ReadDecimals
+pub mod TextSize
+pub mod Windows
