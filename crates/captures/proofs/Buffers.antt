@@ -39,6 +39,18 @@ module _ {buffer bytes after : List ℕ} {answer : Bool} (done : Overwrites buff
       let inside : fits buffer 0 bytes ≡ true = sym (done .answered) ∙ h in
       (le-ltb (length buffer) (length bytes) (omega (arith, leb-true (0 + length bytes) (length buffer) inside)), done .held ∙ rw inside)
 
+-- bytes put behind others, where both have room
+module _ (buffer first second : List ℕ) {after : List ℕ} (roomy : length first + length second ≤ length buffer) (put-first : after ≡ overwrite buffer 0 first) where
+  pub second-fits : length first + length second ≤ length after
+  second-fits = omega (arith, roomy, ap length put-first, length-overwrite buffer 0 first (omega (arith, roomy)))
+
+  pub both-put : {start end : ℕ} {last : List ℕ} → start ≡ length first → end ≡ start + length second → last ≡ overwrite after start second → (end ≡ length (first ++ second)) × (last ≡ overwrite buffer 0 (first ++ second))
+  both-put {start} starts ends e =
+      let place : start ≡ 0 + length first = omega (arith, starts) in (
+        omega (arith, ends, starts, length-append first second),
+        e ∙ rw (put-first, place) (overwrite-after buffer 0 first second (omega (arith, roomy))),
+      )
+
 -- bytes put one after another: what is still to be put, put where it belongs, makes the whole
 pub record PutFrom (buffer : List ℕ) (at : ℕ) (all now : List ℕ) (place : ℕ) (rest : List ℕ) : Type 0 where
   pub ends : place + length rest ≡ at + length all

@@ -8,11 +8,12 @@ use borrow.Author.Tests.{ltb-false}
 use lib.Dec.{ltb}
 use lib.ListN.{length, drop, length-append}
 use Rattle.octets.specs.Octets.{overwrite, sum, Overwrites}
-use Rattle.octets.proofs.Overwriting.{overwrites, overwrite-after, length-overwrite}
+use Rattle.octets.proofs.Overwriting.{overwrites}
 use Rattle.framing.specs.Refusal.{firstRefusal, checked}
 use Rattle.framing.specs.declared.Check.{Check}
 use Rattle.captures.specs.Form.{newest, idsAt, packetAt, boardLimit, boardsOf, headBytes, recordsBytes}
 use Rattle.captures.specs.Writing.{WriteCall, SideBySide, recordsGiven, bytesGiven, tooShort, writeRefusals, writeRefusal}
+use Rattle.captures.proofs.Buffers.{second-fits, both-put}
 use Rattle.captures.proofs.Lists.{length-head, length-list}
 
 -- 54 is left to decide
@@ -47,15 +48,8 @@ module _ {call : WriteCall} (judged : Judged call) where
       head-put : after ≡ overwrite (call .buffer) 0 (headBytes newest (call .ids))
       head-put = overwrites headed (omega (arith, both-fit))
 
-      same-room : length after ≡ length (call .buffer)
-      same-room = ap length head-put ∙ length-overwrite (call .buffer) 0 (headBytes newest (call .ids)) (omega (arith, both-fit))
-
       pub records-fit : start + length (recordsBytes newest (recordsGiven call)) ≤ length after
-      records-fit = omega (arith, starts, both-fit, same-room, length-head newest (call .ids))
+      records-fit = omega (arith, starts, second-fits (call .buffer) (headBytes newest (call .ids)) (recordsBytes newest (recordsGiven call)) both-fit head-put, length-head newest (call .ids))
 
       pub all-put : {end : ℕ} {last : List ℕ} → end ≡ start + length (recordsBytes newest (recordsGiven call)) → last ≡ overwrite after start (recordsBytes newest (recordsGiven call)) → (end ≡ length (bytesGiven call)) × (last ≡ overwrite (call .buffer) 0 (bytesGiven call))
-      all-put ends e =
-          let place : start ≡ 0 + length (headBytes newest (call .ids)) = omega (arith, starts, length-head newest (call .ids)) in (
-            omega (arith, ends, starts, length-head newest (call .ids), length-append (headBytes newest (call .ids)) (recordsBytes newest (recordsGiven call))),
-            e ∙ rw (head-put, place) (overwrite-after (call .buffer) 0 (headBytes newest (call .ids)) (recordsBytes newest (recordsGiven call)) (omega (arith, both-fit))),
-          )
+      all-put = both-put (call .buffer) (headBytes newest (call .ids)) (recordsBytes newest (recordsGiven call)) both-fit head-put (starts ∙ sym (length-head newest (call .ids)))

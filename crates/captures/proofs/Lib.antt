@@ -13,3 +13,4 @@ pub mod WritesRead
 pub mod Told
 pub mod Versions
 pub mod Rewriting
+pub mod Opening

@@ -46,14 +46,14 @@ counters-read version boards bytes =
     })
     bytes 0
 
-module _ (capture : List ℕ) (small : Bytes capture) (right : headRefusal capture ≡ none) where
+module _ (capture : List ℕ) (right : headRefusal capture ≡ none) where
   abbrev version : Version
   version = versionOf capture
 
   abbrev ids : List ℕ
   ids = take (16 * boardCount version capture) (drop (idsAt version) capture)
 
-  ids-read : idsIn capture ≡ ids
+  pub ids-read : idsIn capture ≡ ids
   ids-read = ap (λ o. idsAs version o capture) right
 
   ids-size : length ids ≡ 16 * boardCount version capture
@@ -65,8 +65,8 @@ module _ (capture : List ℕ) (small : Bytes capture) (right : headRefusal captu
       let third = not-refused _ _ capture (not-refused _ _ capture (not-refused _ _ capture right .1) .1) in
       not-false _ (neither (wrongCount version (boardCount version capture)) _ (third .0) .0)
 
-  ids-right : wrongIds newest ids ≡ false
-  ids-right =
+  read-right : wrongIds newest ids ≡ false
+  read-right =
       let both = both-true (leb 1 (boardCount version capture)) (leb (boardCount version capture) (boardLimit version)) count-right in
       let some-boards : 1 ≤ boardsOf ids = omega (arith, ids-size, leb-true 1 (boardCount version capture) (both .0)) in
       let few : boardsOf ids ≤ boardLimit newest =
@@ -74,11 +74,14 @@ module _ (capture : List ℕ) (small : Bytes capture) (right : headRefusal captu
       let whole : length ids % 16 ≡ 0 = omega (arith, ids-size) in
       rw (eq-eqb (length ids % 16) 0 whole, le-leb _ _ some-boards, le-leb _ _ few)
 
+  pub ids-right : wrongIds newest (idsIn capture) ≡ false
+  ids-right = ap (wrongIds newest) ids-read ∙ read-right
+
 pub rewrites-hold : RewritesHold
 rewrites-hold capture small right =
     let version = versionOf capture in
     reads-written newest (idsIn capture) (recordsIn capture)
-    (ap (wrongIds newest) (ids-read capture small right) ∙ ids-right capture small right)
+    (ids-right capture right)
     (in-range (boardsOf (idsIn capture)) (recordsIn capture) (records-within capture))
     (rw right
     (counters-read version (boardCount version capture) (drop (recordsAt version capture) capture) (dropped-small (recordsAt version capture) capture small)))

@@ -33,9 +33,12 @@ head-by version capture none = number-as (wrongRecord (readIn version capture))
 
 module _ (version : Version) (boards : ℕ) (bytes : List ℕ) where
   -- the start of a record is a byte at the least
-  cut-some : (empty : Bool) → eqb (length bytes) 0 ≡ empty → nextRecord version boards bytes ≡ next.Cut → eqb (length bytes) 0 ≡ false
-  cut-some false e cut = e
-  cut-some true e cut = let never : next.End ≡ next.Cut = rw e at cut in cc
+  cut-by : (empty : Bool) → eqb (length bytes) 0 ≡ empty → nextRecord version boards bytes ≡ next.Cut → eqb (length bytes) 0 ≡ false
+  cut-by false e cut = e
+  cut-by true e cut = let never : next.End ≡ next.Cut = rw e at cut in cc
+
+  pub cut-some : nextRecord version boards bytes ≡ next.Cut → eqb (length bytes) 0 ≡ false
+  cut-some = cut-by (eqb (length bytes) 0) refl
 
   record-by :
       (found : NextRecord) → (found ≡ next.Cut → eqb (length bytes) 0 ≡ false)
@@ -52,5 +55,5 @@ refusals-told =
       by-head = λ capture. ap (λ (o : Option ℕ). Option·getD o 0) (refusal-then capture) ∙ head-by (versionOf capture) capture (headRefusal capture);
       by-record = λ version boards bytes.
           ap (λ (r : Reading). cond (wrongRecord r) 53 0) (read-step version boards bytes)
-          ∙ record-by version boards bytes (nextRecord version boards bytes) (cut-some version boards bytes (eqb (length bytes) 0) refl);
+          ∙ record-by version boards bytes (nextRecord version boards bytes) (cut-some version boards bytes);
     }

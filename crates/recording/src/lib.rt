@@ -1,6 +1,6 @@
 // Writes a capture of version 2, or its head and its records one at a time, into a lent buffer, as `captures` defines their bytes.
-use captures::writing::Written;
 use captures::Version;
+use captures::writing::Written;
 use framing::Check;
 ghost use mathlib.Core.Bool.{not};
 ghost use mathlib.Core.List.{_++_};
@@ -84,7 +84,7 @@ fn record_start(index: u16, direction: u8, counter: u32, size: usize) -> [u8; ca
 }
 
 // Puts a record into `buffer` from `at` on, and says whether it fits.
-fn put_record(
+pub fn put_record(
     buffer: &mut [u8],
     at: usize,
     index: u16,

@@ -8,13 +8,14 @@ use Rattle.captures.specs.Reading.{Reading, left, wrong, item, read, recordsOf,
 use Rattle.captures.specs.Statements.{joined}
 use Rattle.captures.specs.declared.reading.Opened.{Opened}
 use Rattle.captures.specs.declared.reading.Opened.the-variants as opened
+use Rattle.captures.proofs.Opening.{accepted-as, records-same}
 use Rattle.captures.proofs.Pieces.{opened-front, inside}
 use Rattle.counts.specs.Counting.{countLimit, counted, endOf, leftOf, endingNumber}
 use Rattle.counts.specs.Statements.{isWrong, after}
 use Rattle.counts.proofs.Pieces.{pieces-count}
 use Rattle.summing.specs.Text.{textOf, summaryOf}
 use Rattle.summing.specs.Statements.{progressNumber, progressText, textAs, headWithin, PiecesSummed}
-use Rattle.summing.proofs.Summaries.{none-yet, accepted-as, records-same, summary-refused, summary-counted}
+use Rattle.summing.proofs.Summaries.{none-yet, summary-refused, summary-counted}
 
 -- the text of a reading, by its ending
 pub number-after : (counts : List ℕ) (r : Reading) → progressNumber (after counts r) ≡ endingNumber (endOf r)

@@ -3,15 +3,16 @@ use Prim.Native.Nat.{ℕ, _+_, _*_, _/_, _%_, _<_, _≤_}
 use native.Mathlib.Omega.{arith}
 use mathlib.Core.Bool.{Bool, true, false, cond, not}
 use mathlib.Core.List.{List, [], _++_}
-use mathlib.Core.Option.{Option, none, some}
+use mathlib.Core.Option.{none, some}
 use mathlib.Core.Path.{_≡_, refl, sym, ap, _∙_}
 use borrow.Author.Tests.{ne-eqb}
 use lib.Dec.{eqb}
 use lib.ListN.{length, drop, length-drop, length-replicate}
 use Rattle.framing.proofs.Refusals.{refused-then, passed-then}
 use Rattle.captures.specs.Form.{newest, Record, boardLimit}
-use Rattle.captures.specs.Reading.{versionOf, boardCount, recordsAt, headRefusal, Reading, left, wrong, item, read, readingOf, recordsOf, wrongRecord, recordsAs, recordsIn, captureRefusal, openedAs, openedOf}
+use Rattle.captures.specs.Reading.{versionOf, Reading, left, wrong, item, read, readingOf, recordsOf, wrongRecord, recordsAs, captureRefusal, openedOf}
 use Rattle.captures.proofs.Readings.{of-readings}
+use Rattle.captures.proofs.Opening.{head-refused, accepted-as, reading-same}
 use Rattle.captures.proofs.Told.{refusal-then}
 use Rattle.captures.specs.declared.Version.{Version}
 use Rattle.captures.specs.declared.reading.Opened.the-variants as opened
@@ -67,50 +68,21 @@ no-lines = each-nothing (boardLimit newest) (λ index. each-nothing numbersPerBo
 
 -- how the head of a capture was opened
 module _ (capture : List ℕ) where
-  refused-by : (refused : Option ℕ) {number : ℕ} → openedAs (versionOf capture) refused capture ≡ opened.Refused number → refused ≡ some number
-  refused-by none e = cc
-  refused-by (some n) e = cc
-
-  pub record Accepted (version : Version) (boards records : ℕ) : Type 0 where
-    pub accepted : headRefusal capture ≡ none
-    pub version-told : version ≡ versionOf capture
-    pub boards-told : boards ≡ boardCount (versionOf capture) capture
-    pub records-told : records ≡ recordsAt (versionOf capture) capture
-
-  accepted-by :
-      (refused : Option ℕ) → headRefusal capture ≡ refused → {version : Version} {boards ids records : ℕ}
-      → openedAs (versionOf capture) refused capture ≡ opened.Capture version boards ids records → Accepted version boards records
-  accepted-by none h e = record { accepted = h; version-told = cc; boards-told = cc; records-told = cc }
-  accepted-by (some n) h e = record { accepted = cc; version-told = cc; boards-told = cc; records-told = cc }
-
-  pub accepted-as : {version : Version} {boards ids records : ℕ} → openedOf capture ≡ opened.Capture version boards ids records → Accepted version boards records
-  accepted-as e = accepted-by (headRefusal capture) refl e
-
   last-refused : {number : ℕ} → openedOf capture ≡ opened.Refused number → lastLine number ≡ refusedLine number
   last-refused {number} e =
-      let some-number = head-some capture (refused-by (headRefusal capture) e) in
+      let some-number = head-some capture (head-refused capture e) in
       rw (ne-eqb number 0 (λ z. omega arith))
 
   -- a refused head
   pub summary-refused : {number : ℕ} → openedOf capture ≡ opened.Refused number → summaryOf capture ≡ refusedLine number
   summary-refused {number} e =
-      let head = refused-by (headRefusal capture) e in
+      let head = head-refused capture e in
       (λ i. recordLines (recordsAs (versionOf capture) (head i) capture) ++ refusedAs ((refusal-then capture ∙ refused-then _ head) i))
       ∙ ap (λ (lines : List ℕ). lines ++ refusedLine number) no-lines
 
   pub refused-shown : {number : ℕ} → openedOf capture ≡ opened.Refused number → textOf [] number ≡ summaryOf capture
   unfolding linesOf each
   refused-shown e = last-refused e ∙ sym (summary-refused e)
-
-  -- the records after an accepted one
-  reading-same : {version : Version} {boards ids records : ℕ} → openedOf capture ≡ opened.Capture version boards ids records → read version boards (drop records capture) ≡ readingOf capture
-  reading-same e =
-      let told = accepted-as e in
-      λ i. read (told .version-told i) (told .boards-told i) (drop (told .records-told i) capture)
-
-  pub records-same :
-      {version : Version} {boards ids records : ℕ} → openedOf capture ≡ opened.Capture version boards ids records → recordsIn capture ≡ recordsOf (read version boards (drop records capture))
-  records-same e = ap (λ (o : Option ℕ). recordsAs (versionOf capture) o capture) (accepted-as e .accepted) ∙ ap recordsOf (sym (reading-same e))
 
 -- the last line is that of 53, where the reading ended in it
 left-last : (none-left : Bool) → lastLine (cond none-left 0 53) ≡ refusedAs (cond (not none-left) (some 53) none)

@@ -1,7 +1,7 @@
 -- `recording::record_start` meets its contract.
 use native.Mathlib.Omega.{arith}
 use Prim.Native.Nat.{_/_, _%_}
-use mathlib.Core.List.{[], _∷_, _++_}
+use mathlib.Core.List.{_∷_, _++_}
 use mathlib.Core.Path.{_≡_}
 use Rattle.captures.specs.Numbers.{bytesOf}
 use borrow.Author.Needs.{needs}
