@@ -1,5 +1,5 @@
 -- A capture may be read in pieces.
-use Prim.Native.Nat.{ℕ, _+_, _≤_}
+use Prim.Native.Nat.{ℕ, _+_, _*_, _≤_}
 use native.Mathlib.Omega.{arith}
 use mathlib.Core.Bool.{Bool, true, false}
 use mathlib.Core.List.{List, [], _∷_, _++_, append-assoc, append-nil}
@@ -14,8 +14,8 @@ use Rattle.octets.proofs.Booleans.{both-true, neither}
 use Rattle.framing.specs.Refusal.{firstRefusal}
 use Rattle.framing.proofs.Refusals.{not-refused}
 use Rattle.captures.specs.Numbers.{bytesOf}
-use Rattle.captures.specs.Form.{mark, versionNumber, indexSize, versionAt, countAt, boardLimit, wrongCount}
-use Rattle.captures.specs.Reading.{Reading, isVersion, versionOf, readIn, readingOf, boardCount, recordsAt, wrongBoards, headRefusals, headRefusal, read, openedAs, openedOf}
+use Rattle.captures.specs.Form.{mark, versionNumber, indexSize, versionAt, countAt, idsAt, boardLimit, wrongCount}
+use Rattle.captures.specs.Reading.{Reading, isVersion, versionOf, readIn, readingOf, boardCount, recordsAt, wrongBoards, headRefusals, headRefusal, read, idsAs, idsIn, openedAs, openedOf}
 use Rattle.captures.specs.Statements.{resumedBy, joined, longestHead, PiecesRead}
 use Rattle.captures.specs.declared.Version.{Version}
 use Rattle.captures.specs.declared.Version.the-variants.{One, Two}
@@ -76,6 +76,19 @@ module _ (front more : List ℕ) (long : longestHead ≤ length front) where
 
   pub opened-front : openedOf (front ++ more) ≡ openedOf front
   opened-front = (λ i. openedAs (version-front i) (head-front i) (front ++ more)) ∙ opened-at (versionOf front) (headRefusal front)
+
+  ids-at : (refused : Option ℕ) → headRefusal front ≡ refused → idsAs (versionOf front) refused (front ++ more) ≡ idsAs (versionOf front) refused front
+  ids-at (some number) e = refl
+  ids-at none e =
+      let version = versionOf front in
+      rw (
+        count-front version,
+        drop-append-le (idsAt version) front more (omega (arith, inside front e)),
+        take-append-le (16 * boardCount version front) (drop (idsAt version) front) more (simp length-drop (omega (arith, inside front e))),
+      )
+
+  pub ids-front : idsIn (front ++ more) ≡ idsIn front
+  ids-front = (λ i. idsAs (version-front i) (head-front i) (front ++ more)) ∙ ids-at (headRefusal front) refl
 
   pub read-front :
       (pieces : List (List ℕ)) → more ≡ joined pieces → headRefusal front ≡ none
