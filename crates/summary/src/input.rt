@@ -1,4 +1,5 @@
 // Counts the records of a capture that is read from standard input through a window.
+use captures::Version;
 use captures::reading::Opened;
 use counts::counting::Ending;
 use libc::STDIN_FILENO;
@@ -51,13 +52,14 @@ fn count_records(
     window: &mut [u8],
     records: usize,
     filled: usize,
+    version: Version,
     boards: u16,
 ) -> Counted {
     let mut start = records;
     let mut end = filled;
     let mut turns = u64::MAX;
     while 0 < turns {
-        let ending = counts::window::count_window(pairs, window, start, end, boards);
+        let ending = counts::window::count_window(pairs, window, start, end, version, boards);
         let Ending::Left(left) = ending else {
             return Counted::Until(counts::counting::ending_number(ending));
         };
@@ -82,9 +84,10 @@ pub(crate) fn count(pairs: &mut [u64], window: &mut [u8]) -> Counted {
     match captures::reading::open(octets::first_bytes(window, filled)) {
         Opened::Refused(number) => Counted::Until(number),
         Opened::Capture {
+            version,
             boards,
             ids: _,
             records,
-        } => count_records(pairs, window, records, filled, boards),
+        } => count_records(pairs, window, records, filled, version, boards),
     }
 }

@@ -5,18 +5,23 @@ use input::Counted;
 use libc::STDOUT_FILENO;
 use tool::listing::Listed;
 
-fn main() {
-    let mut window = [0u8; 65536];
-    let mut pairs = [0u64; captures::BOARD_LIMIT * counts::counting::NUMBERS];
-    let Counted::Until(refusal) = input::count(&mut pairs, &mut window) else {
+// Sums up the capture on standard input. Counts, window and text are lent.
+fn sum_up(pairs: &mut [u64], window: &mut [u8], text: &mut [u8]) {
+    let Counted::Until(refusal) = input::count(pairs, window) else {
         os::fail(b"summary: standard input");
         return;
     };
-    let mut text = [0u8; counts::text::LONGEST_TEXT];
-    let Listed::Length(length) = counts::text::write(&mut text, &pairs, refusal) else {
+    let Listed::Length(length) = summing::write(text, pairs, refusal) else {
         return;
     };
-    if !io::write_all(STDOUT_FILENO, &text[..length]) {
+    if !io::write_all(STDOUT_FILENO, octets::first_bytes(text, length)) {
         os::fail(b"summary: standard output");
     }
+}
+
+fn main() {
+    let mut window = [0u8; 65536];
+    let mut pairs = [0u64; captures::BOARD_LIMIT * counts::counting::NUMBERS];
+    let mut text = [0u8; summing::LONGEST_TEXT];
+    sum_up(&mut pairs, &mut window, &mut text);
 }

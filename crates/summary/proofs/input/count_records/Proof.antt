@@ -6,10 +6,10 @@ use Rattle.summary.proofs.input.count_records.Statement.{statement}
 use Rattle.summary.proofs.input.count_records.Tie as tie
 
 abbrev Inv-loop : tie.InvT-loop
-Inv-loop pairs₀ window₀ records filled boards start₀ end₀ turns₀ pairs window start end turns = (length pairs ≡ length pairs₀) × (length window ≡ length window₀)
+Inv-loop pairs₀ window₀ records filled version boards start₀ end₀ turns₀ pairs window start end turns = (length pairs ≡ length pairs₀) × (length window ≡ length window₀)
 
 abbrev μ-loop : tie.MeasureT-loop
-μ-loop pairs₀ window₀ records filled boards start₀ end₀ turns₀ pairs window start end turns = turns
+μ-loop pairs₀ window₀ records filled version boards start₀ end₀ turns₀ pairs window start end turns = turns
 
 loop-holds : tie.Need-loop-holds Inv-loop μ-loop
 loop-holds c = search needs
