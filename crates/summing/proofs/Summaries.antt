@@ -62,6 +62,7 @@ counted-lines records few =
     ∙ each-board (boardLimit newest) (lineAt (counted none-yet records))
     ∙ each-same (boardLimit newest) (λ index inside. each-same numbersPerBoard (line-same records few index inside))
 
+-- no record has no line
 no-lines : recordLines [] ≡ []
 unfolding countOf
 no-lines = each-nothing (boardLimit newest) (λ index. each-nothing numbersPerBoard (λ number. refl))

@@ -22,7 +22,7 @@ slice-aggregate-write-field-2 c = search needs
 write-field-requires-2 : tie.Need-write-field-requires-2
 write-field-requires-2 c κs =
     let written = c .before .before .write-field .ensures in
-    (omega (arith, field-start _ 10 63 _ written), omega (arith, written .ends))
+    (omega (arith, field-start _ _ _ _ written), omega (arith, written .ends))
 
 slice-aggregate-write-field-3 : tie.Need-slice-aggregate-write-field-3
 slice-aggregate-write-field-3 c = search needs
@@ -31,7 +31,7 @@ write-field-requires-3 : tie.Need-write-field-requires-3
 write-field-requires-3 c κs =
     let counted = c .before .before .before .before .before .write-field .ensures in
     let numbered = c .before .before .write-field2 .ensures in
-    (omega (arith, field-start _ 10 63 _ counted, field-start _ 44 _ _ numbered), omega (arith, counted .ends, numbered .ends))
+    (omega (arith, field-start _ _ _ _ counted, field-start _ _ _ _ numbered), omega (arith, counted .ends, numbered .ends))
 
 returns-2 : tie.Need-returns-2
 returns-2 c =
