@@ -11,8 +11,8 @@
  *  - A slice is a pointer and a count. The pointer must not be null, also where the count is 0. What a call writes to, record or buffer,
  *    must not overlap another argument, nor be used by another thread meanwhile.
  *  - A refusal is a number above 0. Where several apply, the first in the order listed is given.
- *  - A refused call leaves the record and every buffer as they were. Only udgornwy_count_window has then counted what stands before the
- *    fault.
+ *  - A refused call leaves the record and every buffer as they were. Only with 53, udgornwy_count_window has counted and
+ *    udgornwy_rewrite_capture has rewritten what stands before the fault.
  *  - Values of several bytes have the low byte first.
  */
 #ifndef UDGORNWY_H
@@ -72,7 +72,7 @@ typedef struct {
 /* What a call that writes a buffer answers. */
 typedef struct {
     uint16_t refusal; /* 0: not refused */
-    size_t length;    /* bytes written to the buffer's start, the rest stays; 0 where refused */
+    size_t length;    /* bytes written to the buffer's start, the rest stays; 0 where refused, but for a capture rewritten in part */
 } udgornwy_reply;
 
 /* Where the parts of a packet stand in its bytes. */
@@ -197,27 +197,30 @@ udgornwy_reply udgornwy_list(uint8_t *text, size_t text_length, const uint8_t *p
 /* ---- Captures ---- */
 
 /*
- * A capture keeps packets as they were sent, damaged ones too: a head with the IDs of 1 to 16 boards, and then records, each with one packet.
+ * A capture keeps packets as they were sent, damaged ones too: a head with the IDs of its boards, and then records, each with one packet.
+ * Version 1 has 1 to 16 boards, version 2 has 1 to 1,000. Both are read, version 2 is written.
  *
  * A CAPTURE BEARS THE PASSWORDS OF ITS REQUESTS, in plain. Keep it as one keeps passwords.
  */
 enum {
-    UDGORNWY_MOST_BOARDS = 16,
-    UDGORNWY_LONGEST_HEAD = 262,
-    UDGORNWY_LONGEST_RECORD = 264,
-    UDGORNWY_NUMBERS = 11,           /* counts of a board: of the numbers 0 to 10 */
-    UDGORNWY_LONGEST_SUMMARY = 4763, /* bytes of the longest text of 16 boards' counts */
-    UDGORNWY_REQUEST = 0,            /* the directions */
+    UDGORNWY_MOST_BOARDS = 1000,       /* of version 2, and so of any */
+    UDGORNWY_LONGEST_HEAD = 16007,
+    UDGORNWY_LONGEST_RECORD = 265,     /* 264 in version 1 */
+    UDGORNWY_NUMBERS = 11,             /* counts of a board: of the numbers 0 to 10 */
+    UDGORNWY_LONGEST_SUMMARY = 308011, /* room for every text of 1,000 boards' counts */
+    UDGORNWY_REQUEST = 0,              /* the directions */
     UDGORNWY_RESPONSE = 1,
-    UDGORNWY_RECORD = 0,             /* the kinds of what stands first: a record */
-    UDGORNWY_RECORDS_END = 1,        /* nothing, no record is left */
-    UDGORNWY_RECORD_CUT = 2,         /* the start of a record: refusal 53, where no more bytes come */
-    UDGORNWY_RECORD_WRONG = 3        /* a field outside its range: refusal 53 */
+    UDGORNWY_RECORD = 0,               /* the kinds of what stands first: a record */
+    UDGORNWY_RECORDS_END = 1,          /* nothing, no record is left */
+    UDGORNWY_RECORD_CUT = 2,           /* the start of a record: refusal 53, where no more bytes come */
+    UDGORNWY_RECORD_WRONG = 3,         /* a field outside its range: refusal 53 */
+    UDGORNWY_VERSION_WRONG = 4         /* the version given is neither 1 nor 2: refusal 51 */
 };
 
 /* The head of a capture. */
 typedef struct {
     uint16_t refusal; /* 0: not refused; else all behind it is 0 */
+    uint16_t version; /* 1 or 2 */
     uint16_t boards;  /* so many IDs, and an index is below it */
     size_t ids;       /* 16 bytes each from here */
     size_t records;   /* from here on */
@@ -233,8 +236,9 @@ typedef struct {
     size_t rest;       /* and so many after it, where the next record starts */
 } udgornwy_capture_record;
 
-UDGORNWY_ASSERT(offsetof(udgornwy_opened, boards) == 2, "the board count follows the refusal");
-UDGORNWY_ASSERT(offsetof(udgornwy_opened, ids) == sizeof(size_t), "refusal and board count take the room of a place");
+UDGORNWY_ASSERT(offsetof(udgornwy_opened, version) == 2, "the version follows the refusal");
+UDGORNWY_ASSERT(offsetof(udgornwy_opened, boards) == 4, "the board count follows the version");
+UDGORNWY_ASSERT(offsetof(udgornwy_opened, ids) == sizeof(size_t), "refusal, version and board count take the room of a place");
 UDGORNWY_ASSERT(sizeof(udgornwy_opened) == 3 * sizeof(size_t), "nothing follows the places");
 UDGORNWY_ASSERT(offsetof(udgornwy_capture_record, direction) == 1, "the direction follows the kind");
 UDGORNWY_ASSERT(offsetof(udgornwy_capture_record, index) == 2, "the index follows the direction");
@@ -244,34 +248,34 @@ UDGORNWY_ASSERT(sizeof(udgornwy_capture_record) == 8 + 2 * sizeof(size_t), "noth
 #undef UDGORNWY_ASSERT
 
 /*
- * Opens a capture: all of its bytes, or the first 262 or more.
+ * Opens a capture: all of its bytes, or the first 16,007 or more.
  * Refusals:
  *   50  it does not begin with VLG
- *   51  the version is not 1, or is cut short
- *   52  the board count is not 1 to 16, or the IDs are cut short
+ *   51  the version is neither 1 nor 2, or is cut short
+ *   52  the board count is not 1 to 16 in version 1 or 1 to 1,000 in version 2, or the head is cut short
  */
 udgornwy_opened udgornwy_open_capture(const uint8_t *capture, size_t capture_length);
 
 /*
- * Takes the first record of what is left of a capture of so many boards, at first all from `records` on, and then the last `rest` bytes
- * again and again. The packet stands from where `packet` bytes are left to where `rest` bytes are left. It is not judged.
+ * Takes the first record of what is left of a capture of this version and of so many boards, at first all from `records` on, and then the
+ * last `rest` bytes again and again. The packet stands from where `packet` bytes are left to where `rest` bytes are left. It is not judged.
  */
-udgornwy_capture_record udgornwy_next_record(const uint8_t *rest, size_t rest_length, uint16_t boards);
+udgornwy_capture_record udgornwy_next_record(const uint8_t *rest, size_t rest_length, uint16_t version, uint16_t boards);
 
 /*
  * Writes the head of a capture of the boards with these IDs, 16 bytes each, one after another. The records go behind it, one after another.
  * Refusals:
- *   52  the bytes of the IDs are no multiple of 16, or make no board, or more than 16
- *   54  the buffer is shorter than the head; 262 bytes are enough
+ *   52  the bytes of the IDs are no multiple of 16, or make no board, or more than 1,000
+ *   54  the buffer is shorter than the head; 16,007 bytes are enough
  */
 udgornwy_reply udgornwy_write_head(uint8_t *buffer, size_t buffer_length, const uint8_t *ids, size_t ids_length);
 
 /*
  * Writes a record of a capture of so many boards.
  * Refusals:
- *   52  boards not 1 to 16
+ *   52  boards not 1 to 1,000
  *   53  the index is not below boards, the direction is above 1, or the packet has over 256 bytes
- *   54  the buffer is shorter than the record; 264 bytes are enough
+ *   54  the buffer is shorter than the record; 265 bytes are enough
  */
 udgornwy_reply udgornwy_write_record(uint8_t *buffer, size_t buffer_length, uint16_t boards, uint16_t index, uint8_t direction,
                                      uint32_t counter, const uint8_t *packet, size_t packet_length);
@@ -290,8 +294,30 @@ udgornwy_reply udgornwy_write_capture(uint8_t *buffer, size_t buffer_length, con
                                       size_t packets_length);
 
 /*
- * To sum up a capture of any length through a window of 264 bytes or more, with 16 * 11 counts that are 0 at first:
- *  1. Read until the window has 262 bytes or the capture ends, and open what was read. Where that is refused, go to 4 with that number.
+ * Rewrites a capture of either version in version 2, with the same IDs and records.
+ * buffer needs the length of what is written: that of the capture, and for version 1 a byte more in the head and in each record.
+ * capture_length + capture_length / 8 bytes are enough.
+ * Refusals:
+ *   50 to 52  as for udgornwy_open_capture
+ *   54  the buffer is shorter than what is to be written
+ *   53  a record is cut short, or has a field outside its range: what stands before it is rewritten, and `length` is the length of that
+ */
+udgornwy_reply udgornwy_rewrite_capture(uint8_t *buffer, size_t buffer_length, const uint8_t *capture, size_t capture_length);
+
+/*
+ * To rewrite a capture of any length in version 2 through a window of 16,007 bytes or more:
+ *  1. Read until the window has 16,007 bytes or the capture ends, and open what was read. Where that is refused, go to 5 with that number.
+ *  2. Write the head with udgornwy_write_head, of the 16 * `boards` bytes from `ids` on.
+ *  3. Take the first record with udgornwy_next_record, from `records` to the end of what was read, and write it with udgornwy_write_record;
+ *     then that of the last `rest` bytes, and so on to a kind other than UDGORNWY_RECORD. Where that is UDGORNWY_RECORD_WRONG, go to 5 with 53.
+ *  4. Move the bytes that are left to the window's start. Read more bytes behind them, and do 3 again, from 0 on. Where no more come, go to 5
+ *     with 53 if any are left, else with 0.
+ *  5. With 50 to 52 nothing was written; with 53, what stands before the fault; with 0, all.
+ */
+
+/*
+ * To sum up a capture of any length through a window of 16,007 bytes or more, with 1000 * 11 counts that are 0 at first:
+ *  1. Read until the window has 16,007 bytes or the capture ends, and open what was read. Where that is refused, go to 4 with that number.
  *  2. Count with udgornwy_count_window, from `records` to the end of what was read. Where that is refused, go to 4 with 53.
  *  3. Its `length` bytes that are left stand at the window's start. Read more bytes behind them, and do 2 again, from 0 on. Where no more
  *     come, go to 4 with 53 if any are left, else with 0.
@@ -299,20 +325,22 @@ udgornwy_reply udgornwy_write_capture(uint8_t *buffer, size_t buffer_length, con
  */
 
 /*
- * Counts the records of a capture of so many boards that stand in the window from start to end, or to the window's end where that comes
- * first. A packet of board i that is judged with n is counted at counts[i * 11 + n], if there is one; a full count stays. n is 0, or what
- * refuses the packet first: 2 to 6 as for udgornwy_parse, then 9 and 10, as for udgornwy_packet of a request and udgornwy_read of a response.
+ * Counts the records of a capture of this version and of so many boards that stand in the window from start to end, or to the window's end
+ * where that comes first. A packet of board i that is judged with n is counted at counts[i * 11 + n], if there is one; a full count stays.
+ * n is 0, or what refuses the packet first: 2 to 6 as for udgornwy_parse, then 9 and 10, as for udgornwy_packet of a request and
+ * udgornwy_read of a response.
  * The length answered is that of the bytes left, the start of a record, which are moved to the window's start.
- * Refusal:
+ * Refusals:
+ *   51  the version is neither 1 nor 2
  *   53  a record with a field outside its range: those before it are counted
  */
 udgornwy_reply udgornwy_count_window(uint64_t *counts, size_t counts_count, uint8_t *window, size_t window_length, size_t start, size_t end,
-                                     uint16_t boards);
+                                     uint16_t version, uint16_t boards);
 
 /*
  * Writes counts as text: the line "index,refusal,count" for each that is not 0, ascending, and then "refused,N" where the refusal N is not 0.
  * Lines end in LF; there is no byte 0 at the end.
- * text needs the text's own length; 4763 bytes are enough for 16 * 11 counts.
+ * text needs the text's own length; 308,011 bytes are enough for 1000 * 11 counts.
  * Refusal:
  *    1  the text does not fit
  */
