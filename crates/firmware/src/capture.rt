@@ -1,21 +1,25 @@
 // The calls on captures for programs in other languages: answers are numbers.
 use super::Reply;
+use captures::Version;
 use captures::reading::NextRecord;
 use captures::reading::Opened;
 use captures::writing::Written;
 use counts::counting::Ending;
+use rewriting::Rewritten;
 ghost use mathlib.Core.Path.{_≡_};
 ghost use Rattle.captures.specs.Form.{recordOf};
-ghost use Rattle.captures.specs.Reading.{openedOf, nextRecord};
+ghost use Rattle.captures.specs.Reading.{openedOf};
 ghost use Rattle.captures.specs.Writing.{headCall, recordCall, writeCall};
-ghost use Rattle.counts.specs.Text.{textOf};
-ghost use Rattle.firmware.specs.Captures.{openedInNumbers, noRecord, nextInNumbers, writtenReply, WritesHead, WritesRecord, WritesCapture, CountsInNumbers};
+ghost use Rattle.rewriting.specs.Rewriting.{rewriteCall};
+ghost use Rattle.summing.specs.Text.{textOf};
+ghost use Rattle.firmware.specs.Captures.{openedInNumbers, versionNumbered, noRecord, nextNumbered, writtenReply, WritesHead, WritesRecord, WritesCapture, rewrittenReply, RewritesInNumbers, CountsNumbered};
 ghost use Rattle.firmware.specs.Client.{ListsInNumbers};
 
 // Refusal 0: the IDs, 16 bytes each, stand from `ids` on, the records from `records` on. With any other every number is 0.
 #[repr(C)]
 pub struct OpenedCapture {
     pub refusal: u16,
+    pub version: u16,
     pub boards: u16,
     pub ids: usize,
     pub records: usize,
@@ -28,17 +32,20 @@ pub extern "C" fn udgornwy_open_capture(capture: &[u8]) -> OpenedCapture
 {
     match captures::reading::open(capture) {
         Opened::Capture {
+            version,
             boards,
             ids,
             records,
         } => OpenedCapture {
             refusal: 0,
+            version: captures::version_number(version),
             boards,
             ids,
             records,
         },
         Opened::Refused(number) => OpenedCapture {
             refusal: number as u16,
+            version: 0,
             boards: 0,
             ids: 0,
             records: 0,
@@ -46,8 +53,26 @@ pub extern "C" fn udgornwy_open_capture(capture: &[u8]) -> OpenedCapture
     }
 }
 
-// Kind 0: a record; 1: no record is left; 2: the start of a record; 3: a field outside its range. With any other than 0 all numbers
-// behind it are 0.
+// What a version's number names.
+enum NumberedVersion {
+    Known(Version),
+    Unknown,
+}
+
+fn version_numbered(number: u16) -> NumberedVersion
+    ensures { λ r. ⌜ r ≡ versionNumbered number ⌝ }
+{
+    if number == captures::version_number(Version::One) {
+        return NumberedVersion::Known(Version::One);
+    }
+    if number == captures::version_number(Version::Two) {
+        return NumberedVersion::Known(Version::Two);
+    }
+    NumberedVersion::Unknown
+}
+
+// Kind 0: a record; 1: no record is left; 2: the start of a record; 3: a field outside its range; 4: no version has this number. With any
+// other than 0 all numbers behind it are 0.
 #[repr(C)]
 pub struct CaptureRecord {
     pub kind: u8,
@@ -71,12 +96,15 @@ fn no_record(kind: u8) -> CaptureRecord
     }
 }
 
-// The first record of what is left of a capture of so many boards, as `captures::reading::next_record`.
+// The first record of what is left of a capture of this version and of so many boards, as `captures::reading::next_record`.
 #[no_mangle]
-pub extern "C" fn udgornwy_next_record(rest: &[u8], boards: u16) -> CaptureRecord
-    ensures { λ r. ⌜ r ≡ nextInNumbers (nextRecord boards (now (rest .entry))) ⌝ }
+pub extern "C" fn udgornwy_next_record(rest: &[u8], version: u16, boards: u16) -> CaptureRecord
+    ensures { λ r. ⌜ r ≡ nextNumbered (versionNumbered version) boards (now (rest .entry)) ⌝ }
 {
-    match captures::reading::next_record(rest, boards) {
+    let NumberedVersion::Known(version) = version_numbered(version) else {
+        return no_record(4);
+    };
+    match captures::reading::next_record(rest, version, boards) {
         NextRecord::End => no_record(1),
         NextRecord::Cut => no_record(2),
         NextRecord::Wrong => no_record(3),
@@ -148,19 +176,51 @@ pub extern "C" fn udgornwy_write_capture(
     written_reply(recording::write(buffer, ids, indexes, directions, counters, lengths, packets))
 }
 
-// Counts the records that stand in a window from `start` to `end`, as `counts::window::count_window`. Refusal 53: a field outside its range; else
-// `length` bytes are left, and stand at the window's start.
+fn rewritten_reply(rewritten: Rewritten) -> Reply
+    ensures { λ r. ⌜ r ≡ rewrittenReply rewritten ⌝ }
+{
+    match rewritten {
+        Rewritten::Whole(length) => Reply { refusal: 0, length },
+        Rewritten::Part(length) => Reply {
+            refusal: 53,
+            length,
+        },
+        Rewritten::Refused(number) => Reply {
+            refusal: number as u16,
+            length: 0,
+        },
+    }
+}
+
+// Rewrites a capture in version 2 into the first bytes of `buffer`, as `rewriting::rewrite`. Refusal 53: `length` bytes hold what stands before
+// the record that is refused.
+#[no_mangle]
+pub extern "C" fn udgornwy_rewrite_capture(buffer: &mut [u8], capture: &[u8]) -> Reply
+    ensures { λ r. ⌜ RewritesInNumbers (rewriteCall (now (buffer .entry)) (now (capture .entry))) r (now (buffer .exit)) ⌝ }
+{
+    rewritten_reply(rewriting::rewrite(buffer, capture))
+}
+
+// Counts the records that stand in a window from `start` to `end`, as `counts::window::count_window`. Refusal 51: no version has this number; 53: a
+// field outside its range; else `length` bytes are left, and stand at the window's start.
 #[no_mangle]
 pub extern "C" fn udgornwy_count_window(
     counts: &mut [u64],
     window: &mut [u8],
     start: usize,
     end: usize,
+    version: u16,
     boards: u16,
 ) -> Reply
-    ensures { λ r. ⌜ CountsInNumbers boards start end (now (window .entry)) (now (counts .entry)) r (now (counts .exit)) (now (window .exit)) ⌝ }
+    ensures { λ r. ⌜ CountsNumbered (versionNumbered version) boards start end (now (window .entry)) (now (counts .entry)) r (now (counts .exit)) (now (window .exit)) ⌝ }
 {
-    match counts::window::count_window(counts, window, start, end, boards) {
+    let NumberedVersion::Known(version) = version_numbered(version) else {
+        return Reply {
+            refusal: 51,
+            length: 0,
+        };
+    };
+    match counts::window::count_window(counts, window, start, end, version, boards) {
         Ending::Left(length) => Reply { refusal: 0, length },
         Ending::Wrong => Reply {
             refusal: 53,
@@ -174,5 +234,5 @@ pub extern "C" fn udgornwy_count_window(
 pub extern "C" fn udgornwy_show_counts(text: &mut [u8], counts: &[u64], refusal: u8) -> Reply
     ensures { λ r. ⌜ ListsInNumbers (textOf (now (counts .entry)) refusal) (now (text .entry)) r (now (text .exit)) ⌝ }
 {
-    super::client::listed_reply(counts::text::write(text, counts, refusal))
+    super::client::listed_reply(summing::write(text, counts, refusal))
 }

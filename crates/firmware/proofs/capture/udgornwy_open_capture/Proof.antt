@@ -8,17 +8,21 @@ use Rattle.firmware.proofs.capture.udgornwy_open_capture.Tie as tie
 open-requires : tie.Need-open-requires
 open-requires c κs = search needs
 
-enum-known-boards : tie.Need-enum-known-boards
-enum-known-boards c = search needs
+enum-known-version : tie.Need-enum-known-version
+enum-known-version c = search needs
+
+version-number-requires : tie.Need-version-number-requires
+version-number-requires c κs = search needs
 
 enum-known-number : tie.Need-enum-known-number
 enum-known-number c = search needs
 
-cast-t8 : tie.Need-cast-t8
-cast-t8 c = search needs
+cast-t10 : tie.Need-cast-t10
+cast-t10 c = search needs
 
 returns : tie.Need-returns
-returns c = ap openedInNumbers (sym (c .before .boards .given .1) ∙ c .before .before .before .«open» .ensures)
+returns c =
+    rw (c .version-number .ensures) (ap openedInNumbers (sym (c .before .before .version .given .1) ∙ c .before .before .before .before .«open» .ensures))
 
 returns-2 : tie.Need-returns-2
 returns-2 c = ap openedInNumbers (sym (c .before .number .given .1) ∙ c .before .before .before .«open» .ensures)
@@ -26,4 +30,11 @@ returns-2 c = ap openedInNumbers (sym (c .before .number .given .1) ∙ c .befor
 pub udgornwy-open-capture-spec : {M : Type 1} → statement M
 udgornwy-open-capture-spec =
     tie.close
-    (tie.spec open-requires enum-known-boards enum-known-number cast-t8 returns returns-2)
+    (tie.spec
+    open-requires
+    enum-known-version
+    version-number-requires
+    enum-known-number
+    cast-t10
+    returns
+    returns-2)
