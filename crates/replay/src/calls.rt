@@ -70,6 +70,9 @@ fn call_on_capture(name: &[u8], left: &[u8], text: &mut [u8], at: usize) -> usiz
     if octets::equal(name, b"summary") {
         return capture_calls::summary(left, text, at);
     }
+    if octets::equal(name, b"rewrite") {
+        return capture_calls::rewrite(left, text, at);
+    }
     output::put_bad(text, at)
 }
 

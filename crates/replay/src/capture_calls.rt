@@ -1,4 +1,4 @@
-// The calls on captures: capread, capwrite, summary.
+// The calls on captures: capread, capwrite, summary, rewrite.
 use crate::capture_lists;
 use crate::fields;
 use crate::fields::Decimal;
@@ -7,9 +7,11 @@ use crate::hex;
 use crate::hex::Decoded;
 use crate::output;
 use crate::slices;
+use captures::Version;
 use captures::reading::NextRecord;
 use captures::reading::Opened;
 use captures::writing::Written;
+use rewriting::Rewritten;
 use tool::listing::Listed;
 
 // The refusal of a capture, behind what was read of it.
@@ -45,12 +47,12 @@ fn put_record(
     output::put_field(text, start, packet)
 }
 
-// The records of a capture of so many boards, and its refusal.
-fn put_records(text: &mut [u8], at: usize, records: &[u8], boards: u16) -> usize {
+// The records of a capture of this version and of so many boards, and its refusal.
+fn put_records(text: &mut [u8], at: usize, records: &[u8], version: Version, boards: u16) -> usize {
     let mut end = at;
     let mut left = records;
     loop {
-        match captures::reading::next_record(left, boards) {
+        match captures::reading::next_record(left, version, boards) {
             NextRecord::End => return end,
             NextRecord::Cut => return put_ending(text, end, 53),
             NextRecord::Wrong => return put_ending(text, end, 53),
@@ -70,29 +72,34 @@ fn put_records(text: &mut [u8], at: usize, records: &[u8], boards: u16) -> usize
     }
 }
 
-// The version of a capture whose head is refused: 0 where mark or version is.
-fn version_of_refused(number: u8) -> u16 {
+fn put_version(text: &mut [u8], at: usize, version: u64) -> usize {
+    output::put_decimal(text, at, b"version ", version)
+}
+
+// The version of a capture whose head is refused: 0 where mark or version is. Else its low byte, behind the mark, is all of it.
+fn version_of_refused(capture: &[u8], number: u8) -> u8 {
     if number < 52 {
         return 0;
     }
-    captures::VERSION
+    octets::byte_at(capture, 3)
 }
 
 fn put_capture(text: &mut [u8], at: usize, capture: &[u8]) -> usize {
     match captures::reading::open(capture) {
         Opened::Refused(number) => {
-            let version = version_of_refused(number);
-            let end = output::put_decimal(text, at, b"version ", version as u64);
+            let end = put_version(text, at, version_of_refused(capture, number) as u64);
             put_ending(text, end, number)
         }
         Opened::Capture {
+            version,
             boards,
             ids,
             records,
         } => {
-            let start = output::put_decimal(text, at, b"version ", captures::VERSION as u64);
+            let start = put_version(text, at, captures::version_number(version) as u64);
             let end = put_ids(text, start, slices::part(capture, ids, records));
-            put_records(text, end, octets::bytes_after(capture, records), boards)
+            let rest = octets::bytes_after(capture, records);
+            put_records(text, end, rest, version, boards)
         }
     }
 }
@@ -143,32 +150,77 @@ fn write_list(text: &mut [u8], at: usize, buffer: &mut [u8], ids: &[u8], list: &
     put_written(text, at, written, buffer)
 }
 
-// Makes the call with the first ROOM bytes of a lent buffer.
-fn write_within(left: &[u8], text: &mut [u8], at: usize, buffer: &mut [u8]) -> usize {
+// IDS I.D.C.HEX ..
+fn write_capture(left: &[u8], text: &mut [u8], at: usize, buffer: &mut [u8]) -> usize {
+    let mut ids = hex::room();
+    let Decoded::Until(end) = capture_lists::read_ids(left, &mut ids) else {
+        return output::put_bad(text, at);
+    };
+    write_list(
+        text,
+        at,
+        buffer,
+        octets::first_bytes(&ids, end),
+        fields::after(left, b' '),
+    )
+}
+
+// The answer of rewriting: that of a write, and refusal 53 behind it.
+fn put_rewritten(text: &mut [u8], at: usize, rewritten: Rewritten, buffer: &[u8]) -> usize {
+    match rewritten {
+        Rewritten::Refused(number) => put_written(text, at, Written::Refused(number), buffer),
+        Rewritten::Whole(length) => put_written(text, at, Written::Length(length), buffer),
+        Rewritten::Part(length) => {
+            let end = put_written(text, at, Written::Length(length), buffer);
+            put_ending(text, end, 53)
+        }
+    }
+}
+
+// CAPTURE
+fn rewrite_capture(left: &[u8], text: &mut [u8], at: usize, buffer: &mut [u8]) -> usize {
+    let mut bytes = hex::room();
+    let Decoded::Until(end) = fields::decode_last(left, &mut bytes, 0) else {
+        return output::put_bad(text, at);
+    };
+    let rewritten = rewriting::rewrite(buffer, octets::first_bytes(&bytes, end));
+    put_rewritten(text, at, rewritten, buffer)
+}
+
+// The calls to which a buffer is lent.
+enum Call {
+    Write,
+    Rewrite,
+}
+
+// Makes a call with the first ROOM bytes of a lent buffer.
+fn call_within(call: Call, left: &[u8], text: &mut [u8], at: usize, buffer: &mut [u8]) -> usize {
     let Decimal::Value(room) = fields::read_decimal(fields::first(left, b' ')) else {
         return output::put_bad(text, at);
     };
     if buffer.len() < room {
         return output::put_bad(text, at);
     }
-    let boards = fields::after(left, b' ');
-    let mut ids = hex::room();
-    let Decoded::Until(end) = capture_lists::read_ids(boards, &mut ids) else {
-        return output::put_bad(text, at);
-    };
-    write_list(
-        text,
-        at,
-        &mut buffer[0..room],
-        octets::first_bytes(&ids, end),
-        fields::after(boards, b' '),
-    )
+    let rest = fields::after(left, b' ');
+    match call {
+        Call::Write => write_capture(rest, text, at, &mut buffer[0..room]),
+        Call::Rewrite => rewrite_capture(rest, text, at, &mut buffer[0..room]),
+    }
+}
+
+fn call_with_buffer(call: Call, left: &[u8], text: &mut [u8], at: usize) -> usize {
+    let mut buffer = [output::FILLER; 1048576];
+    call_within(call, left, text, at, &mut buffer)
 }
 
 // capwrite ROOM IDS I.D.C.HEX ..
 pub(crate) fn write(left: &[u8], text: &mut [u8], at: usize) -> usize {
-    let mut buffer = [output::FILLER; 1048576];
-    write_within(left, text, at, &mut buffer)
+    call_with_buffer(Call::Write, left, text, at)
+}
+
+// rewrite ROOM CAPTURE
+pub(crate) fn rewrite(left: &[u8], text: &mut [u8], at: usize) -> usize {
+    call_with_buffer(Call::Rewrite, left, text, at)
 }
 
 // summary CAPTURE
@@ -177,8 +229,8 @@ pub(crate) fn summary(left: &[u8], text: &mut [u8], at: usize) -> usize {
     let Decoded::Until(end) = fields::decode_last(left, &mut bytes, 0) else {
         return output::put_bad(text, at);
     };
-    let mut lines = [0u8; counts::text::LONGEST_TEXT];
-    let Listed::Length(length) = counts::text::summary(&mut lines, octets::first_bytes(&bytes, end))
+    let mut lines = [0u8; summing::LONGEST_TEXT];
+    let Listed::Length(length) = summing::summary(&mut lines, octets::first_bytes(&bytes, end))
     else {
         return at;
     };

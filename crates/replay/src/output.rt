@@ -3,8 +3,8 @@
 use crate::lines;
 use libc::STDOUT_FILENO;
 
-// No answer is longer: of all fields a record of a capture grows most, from eight characters, with the space before it, to sixteen.
-pub(crate) const LONGEST: usize = 2 * lines::LONGEST;
+// No answer is longer: of all fields a record of a capture grows most, from eight characters, with the space before it, to eighteen.
+pub(crate) const LONGEST: usize = lines::LONGEST / 8 * 18;
 
 // What each byte of a lent buffer is before the call.
 pub(crate) const FILLER: u8 = 0xA5;

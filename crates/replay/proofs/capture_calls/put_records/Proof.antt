@@ -7,10 +7,10 @@ use Rattle.replay.proofs.capture_calls.put_records.Statement.{statement
 use Rattle.replay.proofs.capture_calls.put_records.Tie as tie
 
 abbrev Inv-loop : tie.InvT-loop
-Inv-loop text₀ at records boards end₀ left₀ text end left = length text ≡ length text₀
+Inv-loop text₀ at records version boards end₀ left₀ text end left = length text ≡ length text₀
 
 abbrev μ-loop : tie.MeasureT-loop
-μ-loop text₀ at records boards end₀ left₀ text end left = length left
+μ-loop text₀ at records version boards end₀ left₀ text end left = length left
 
 loop-holds : tie.Need-loop-holds Inv-loop μ-loop
 loop-holds c = search needs
@@ -68,7 +68,7 @@ loop-less c =
     let k = c .before .before .before .before .before .before .before .before .before in
     let v = k .before .loop in
     let told = c .before .before .before .before .before .before .before .index in
-    rw (c .part2 .ensures) (shorter (k .before .before .before .before .args .boards) (v .left .now) (sym (k .next-record .ensures) ∙ told .given .1))
+    rw (c .part2 .ensures) (shorter (k .before .before .before .before .args .version) (k .before .before .before .before .args .boards) (v .left .now) (sym (k .next-record .ensures) ∙ told .given .1))
 
 loop-again : tie.Need-loop-again Inv-loop μ-loop
 loop-again c = search needs
