@@ -67,6 +67,10 @@ pub enum Call {
     Summary {
         capture: Vec<u8>,
     },
+    Rewrite {
+        room: usize,
+        capture: Vec<u8>,
+    },
 }
 
 /// The call of a line; none if it has none of the forms.
@@ -123,6 +127,10 @@ fn parse_capture_call(fields: &[&str]) -> Option<Call> {
                 .collect::<Option<_>>()?,
         }),
         ["summary", capture] => Some(Call::Summary {
+            capture: hex::parse_field(capture)?,
+        }),
+        ["rewrite", room, capture] => Some(Call::Rewrite {
+            room: parse_decimal(room, MOST_ROOM)?,
             capture: hex::parse_field(capture)?,
         }),
         _ => None,
@@ -244,15 +252,24 @@ impl fmt::Display for Call {
                 hex::field(packet)
             ),
             Call::List { packet } => write!(output, "list {}", hex::field(packet)),
-            Call::CaptureRead { capture } => write!(output, "capread {}", hex::field(capture)),
-            Call::CaptureWrite { room, ids, records } => {
-                write!(output, "capwrite {room} {}", joined(ids))?;
-                let mut records = records.iter();
-                records.try_for_each(|record| write!(output, " {}", captured(record)))
-            }
-            Call::Summary { capture } => write!(output, "summary {}", hex::field(capture)),
-            poke => write_poke(output, poke),
+            other => write_capture_call(output, other),
         }
+    }
+}
+
+fn write_capture_call(output: &mut fmt::Formatter, call: &Call) -> fmt::Result {
+    match call {
+        Call::CaptureRead { capture } => write!(output, "capread {}", hex::field(capture)),
+        Call::CaptureWrite { room, ids, records } => {
+            write!(output, "capwrite {room} {}", joined(ids))?;
+            let mut records = records.iter();
+            records.try_for_each(|record| write!(output, " {}", captured(record)))
+        }
+        Call::Summary { capture } => write!(output, "summary {}", hex::field(capture)),
+        Call::Rewrite { room, capture } => {
+            write!(output, "rewrite {room} {}", hex::field(capture))
+        }
+        poke => write_poke(output, poke),
     }
 }
 
@@ -338,6 +355,8 @@ mod tests {
             "capwrite 1048576 00 65535.255.4294967295.-",
             "capwrite 22 0001,02 0.0.0.FDFD 0.1.10.00",
             "summary -",
+            "rewrite 0 -",
+            "rewrite 1048576 564C47",
         ] {
             assert_eq!(parse(line).unwrap().to_string(), line);
         }
@@ -371,6 +390,9 @@ mod tests {
             "capwrite 0 - 0.0.4294967296.-",
             "capwrite 0 - 0.0.0.",
             "capwrite 0 - 0.0.0.00.",
+            "rewrite -",
+            "rewrite 0 - -",
+            "rewrite 1048577 -",
         ] {
             assert_eq!(parse(line), None, "{line}");
         }

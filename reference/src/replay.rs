@@ -5,7 +5,7 @@ use std::io::{self, BufRead, Write};
 use crate::block::{Command, Report};
 use crate::board;
 use crate::call::{self, Call};
-use crate::capture::{self, Captured};
+use crate::capture::{self, Captured, Version};
 use crate::hex;
 use crate::listing;
 use crate::record::{self, Record};
@@ -77,6 +77,7 @@ impl Session {
                 write_capture(*room, &ids.concat(), records)
             }
             Call::Summary { capture } => summarize(capture),
+            Call::Rewrite { room, capture } => rewrite(*room, capture),
             poke => self.poke(poke),
         }
     }
@@ -151,9 +152,21 @@ fn write_capture(room: usize, ids: &[u8], records: &[Captured]) -> String {
     written("capture", &buffer, answer)
 }
 
+fn rewrite(room: usize, capture: &[u8]) -> String {
+    let mut buffer = vec![FILLER; room];
+    let answer = capture::rewrite(&mut buffer, capture);
+    let beside = answer.as_ref().ok().and_then(|rewritten| rewritten.refusal);
+    let text = written("capture", &buffer, answer.map(|rewritten| rewritten.length));
+    match beside {
+        Some(refusal) => format!("{text} {}", refused(refusal)),
+        None => text,
+    }
+}
+
 fn read_capture(capture: &[u8]) -> String {
     let reading = capture::read(capture);
-    let mut text = format!("version {}", reading.version);
+    let version = reading.version.map_or(0, Version::number);
+    let mut text = format!("version {version}");
     for id in &reading.ids {
         text += &format!(" id:{}", hex::digits(id));
     }
@@ -299,21 +312,44 @@ mod tests {
     #[test]
     fn captures_are_written_read_and_summed_up() {
         let id = "30".repeat(16);
-        let capture = format!("564C47010001{id}00010500000002000102");
-        let list = format!(
-            "capwrite 32 {id} 0.1.5.0102\ncapread {capture}\nsummary {capture}\ncapread {capture}00\nsummary {capture}00\n"
-        );
-        let read = format!("version 1 id:{id} rec:0.1.5.0102");
-        let expected =
-            format!("capture {capture}\n{read}\n0,2,1\n{read} refused 53\n0,2,1|refused,53\n");
-        assert_eq!(run(&list), expected);
+        let written = format!("564C4702000100{id}0000010500000002000102");
+        let list = format!("capwrite 34 {id} 0.1.5.0102\n");
+        assert_eq!(run(&list), format!("capture {written}\n"));
+        let of_version_1 = format!("564C47010001{id}00010500000002000102");
+        for (number, capture) in [(1, of_version_1), (2, written)] {
+            let list = format!(
+                "capread {capture}\nsummary {capture}\ncapread {capture}00\nsummary {capture}00\n"
+            );
+            let read = format!("version {number} id:{id} rec:0.1.5.0102");
+            let expected = format!("{read}\n0,2,1\n{read} refused 53\n0,2,1|refused,53\n");
+            assert_eq!(run(&list), expected);
+            let empty = &capture[..capture.len() - 2 * (number + 7) - 4];
+            let list = format!("capread {empty}\nsummary {empty}\n");
+            assert_eq!(run(&list), format!("version {number} id:{id}\n-\n"));
+        }
         assert_eq!(
-            run("capread -\nsummary -\ncapwrite 0 -\ncapread 564C470100\n"),
-            "version 0 refused 50\nrefused,50\nrefused 52\nversion 1 refused 52\n"
+            run("capread -\nsummary -\ncapwrite 0 -\ncapread 564C470100\ncapread 564C470200\n"),
+            "version 0 refused 50\nrefused,50\nrefused 52\nversion 1 refused 52\nversion 2 refused 52\n"
         );
-        let empty = format!("564C47010001{id}");
-        let list = format!("capread {empty}\nsummary {empty}\n");
-        assert_eq!(run(&list), format!("version 1 id:{id}\n-\n"));
+    }
+
+    #[test]
+    fn captures_are_rewritten() {
+        let id = "30".repeat(16);
+        let of_version_1 = format!("564C47010001{id}00010500000002000102");
+        let of_version_2 = format!("564C4702000100{id}0000010500000002000102");
+        for capture in [&of_version_1, &of_version_2] {
+            let list = format!(
+                "rewrite 34 {capture}\nrewrite 33 {capture}\nrewrite 1000 {capture}00\nrewrite 33 {capture}00\n"
+            );
+            let whole = format!("capture {of_version_2}");
+            let expected = format!("{whole}\nrefused 54\n{whole} refused 53\nrefused 54\n");
+            assert_eq!(run(&list), expected);
+        }
+        assert_eq!(
+            run("rewrite 0 -\nrewrite 0 564C47\nrewrite 0 564C470100\n"),
+            "refused 50\nrefused 51\nrefused 52\n"
+        );
     }
 
     #[test]

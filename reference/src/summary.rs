@@ -47,7 +47,7 @@ fn check(record: &Captured) -> Result<(), Refusal> {
 #[cfg(test)]
 mod tests {
     use super::*;
-    use crate::capture::{REQUEST, RESPONSE};
+    use crate::capture::{REQUEST, RESPONSE, Version};
 
     fn captured(index: u16, direction: u8, packet: &[u8]) -> Captured {
         Captured {
@@ -111,20 +111,38 @@ mod tests {
             captured(2, REQUEST, &framed(6, &[])),
             captured(0, REQUEST, &[]),
         ];
-        let mut capture = capture::compose(&[0; 16 * 11], &records);
+        let lines_of = |version: Version, records: &[Captured], boards: usize| {
+            let mut capture = capture::compose(version, &vec![0; 16 * boards], records);
+            let accepted = lines(&capture);
+            capture.push(0);
+            (accepted, lines(&capture))
+        };
         let mut expected = vec!["0,2,1", "2,0,2", "2,9,2", "2,10,1", "10,0,1"];
-        assert_eq!(lines(&capture), expected);
-        capture.push(0);
-        expected.push("refused,53");
-        assert_eq!(lines(&capture), expected);
+        for version in Version::ALL {
+            let (accepted, refused) = lines_of(version, &records, 11);
+            assert_eq!(accepted, expected);
+            assert_eq!(refused, [&expected[..], &["refused,53"]].concat());
+        }
+        let more = [
+            captured(999, REQUEST, &read),
+            captured(256, REQUEST, &read),
+            captured(100, RESPONSE, &read),
+        ];
+        expected.extend(["100,9,1", "256,0,1", "999,0,1"]);
+        let records = [&more[..], &records].concat();
+        let (accepted, refused) = lines_of(Version::Two, &records, 1_000);
+        assert_eq!(accepted, expected);
+        assert_eq!(refused, [&expected[..], &["refused,53"]].concat());
     }
 
     #[test]
     fn a_refused_head_is_told_alone_and_no_record_is_no_line() {
-        let capture = capture::compose(&[0; 16], &[]);
-        assert!(lines(&capture).is_empty());
-        assert_eq!(lines(&capture[..21]), ["refused,52"]);
-        assert_eq!(lines(&capture[..4]), ["refused,51"]);
+        for version in Version::ALL {
+            let capture = capture::compose(version, &[0; 16], &[]);
+            assert!(lines(&capture).is_empty());
+            assert_eq!(lines(&capture[..capture.len() - 1]), ["refused,52"]);
+            assert_eq!(lines(&capture[..4]), ["refused,51"]);
+        }
         assert_eq!(lines(&[]), ["refused,50"]);
     }
 }

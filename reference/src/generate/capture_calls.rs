@@ -3,7 +3,7 @@
 use super::capture_damage::Sketch;
 use super::{Generator, captured};
 use crate::call::{Call, MOST_ROOM};
-use crate::capture::{self, Captured};
+use crate::capture::{self, Captured, Version};
 use crate::hex;
 use crate::packet::{ID_SIZE, LONGEST};
 use crate::random::Random;
@@ -88,7 +88,7 @@ impl Generator {
     /// A capture that is written if the buffer is long enough, and then read back.
     pub fn capture_write(&mut self) {
         let (ids, records) = self.contents();
-        let size = capture::compose(&ids.concat(), &records).len();
+        let size = capture::compose(Version::One, &ids.concat(), &records).len();
         let room = self.random.pick(&[
             size,
             size,
@@ -107,7 +107,7 @@ impl Generator {
     /// A capture of which IDs, records and room are each wrong with some chance.
     pub fn faulty_capture_write(&mut self) {
         let (mut ids, mut records) = self.contents();
-        let size = capture::compose(&ids.concat(), &records).len();
+        let size = capture::compose(Version::One, &ids.concat(), &records).len();
         let random = &mut self.random;
         if random.chance(70) {
             let late = captured::record(random, &ids);
@@ -173,12 +173,13 @@ impl Generator {
 
     /// Records that make a capture of at most so many bytes, and nearly so many.
     fn records_of(&mut self, ids: &[Vec<u8>], size: usize) -> Vec<Captured> {
-        let head = capture::compose(&ids.concat(), &[]).len();
+        let head = capture::compose(Version::One, &ids.concat(), &[]).len();
         let mut rest = size - head;
         let mut records = Vec::new();
         loop {
             let record = captured::record(&mut self.random, ids);
-            let Some(left) = rest.checked_sub(capture::RECORD_HEAD + record.packet.len()) else {
+            let Some(left) = rest.checked_sub(Version::One.record_head() + record.packet.len())
+            else {
                 return records;
             };
             rest = left;

@@ -1,6 +1,6 @@
 //! Captures that are damaged: in each part of the head, in each field of a record, or anywhere.
 
-use crate::capture::{self, Captured, MARK, RECORD_HEAD};
+use crate::capture::{self, Captured, MARK, Version};
 use crate::packet::ID_SIZE;
 use crate::random::Random;
 
@@ -24,10 +24,10 @@ impl Sketch {
     pub fn new(ids: &[Vec<u8>], records: &[Captured]) -> Sketch {
         let mut starts = vec![IDS + ID_SIZE * ids.len()];
         for record in records {
-            starts.push(starts[starts.len() - 1] + RECORD_HEAD + record.packet.len());
+            starts.push(starts[starts.len() - 1] + 8 + record.packet.len());
         }
         Sketch {
-            bytes: capture::compose(&ids.concat(), records),
+            bytes: capture::compose(Version::One, &ids.concat(), records),
             boards: ids.len(),
             starts,
         }
@@ -128,15 +128,15 @@ impl Sketch {
     fn cut_record(&mut self, random: &mut Random) {
         let record = self.any_record(random);
         let (start, end) = (self.starts[record], self.starts[record + 1]);
-        let in_head = random.between(start, start + RECORD_HEAD);
+        let in_head = random.between(start, start + 8);
         let any = random.between(start, end);
         self.bytes.truncate(random.pick(&[in_head, any, end - 1]));
     }
 
     /// Adds a record without a packet and cuts it.
     fn cut_added_record(&mut self, random: &mut Random) {
-        let count = random.between(0, RECORD_HEAD);
-        self.bytes.extend_from_slice(&[0; RECORD_HEAD][..count]);
+        let count = random.between(0, 8);
+        self.bytes.extend_from_slice(&[0; 8][..count]);
     }
 
     fn damage_length(&mut self, random: &mut Random) {

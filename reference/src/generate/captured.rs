@@ -188,7 +188,11 @@ mod tests {
                 true => many_records(&mut random, &ids),
                 false => records(&mut random, &ids),
             };
-            let reading = capture::read(&capture::compose(&ids.concat(), &records));
+            let reading = capture::read(&capture::compose(
+                capture::Version::One,
+                &ids.concat(),
+                &records,
+            ));
             assert_eq!((reading.refusal, reading.records), (None, records));
         }
     }

@@ -3,7 +3,7 @@
 use std::collections::BTreeSet;
 
 use super::also;
-use crate::capture::{self, Captured, MOST_BOARDS, RECORD_HEAD, Reading};
+use crate::capture::{self, Captured, Reading};
 use crate::packet::{ID_SIZE, LONGEST};
 use crate::refusal::Refusal;
 use crate::summary;
@@ -141,15 +141,13 @@ fn causes(capture: &[u8], reading: &Reading, refusal: Refusal) -> Vec<String> {
         (Refusal::CaptureBoards, [_, _, _, _, _, count, ids @ ..]) => {
             let bytes = ID_SIZE * usize::from(*count);
             match usize::from(*count) {
-                1..=MOST_BOARDS => cut_short("IDs", bytes - ids.len()),
+                1..=16 => cut_short("IDs", bytes - ids.len()),
                 count => vec![format!("{count} boards")],
             }
         }
         (Refusal::CaptureRecord, _) => {
             let records = &reading.records;
-            let sizes = records
-                .iter()
-                .map(|record| RECORD_HEAD + record.packet.len());
+            let sizes = records.iter().map(|record| 8 + record.packet.len());
             let start = 6 + ID_SIZE * reading.ids.len() + sizes.sum::<usize>();
             let mut causes = record_causes(reading.ids.len(), &capture[start..]);
             let before = if records.is_empty() {

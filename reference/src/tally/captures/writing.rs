@@ -3,7 +3,7 @@
 use std::collections::BTreeSet;
 
 use super::also;
-use crate::capture::{self, Captured, MOST_BOARDS};
+use crate::capture::{self, Captured, Version};
 use crate::packet::{ID_SIZE, LONGEST};
 
 pub const WRITES: [&str; 30] = [
@@ -42,7 +42,7 @@ pub const WRITES: [&str; 30] = [
 pub fn met(room: usize, ids: &[Vec<u8>], records: &[Captured], answer: &str) -> BTreeSet<String> {
     let given = ids.concat();
     let boards = given.len() / ID_SIZE;
-    let size = capture::compose(&given, records).len();
+    let size = capture::compose(Version::WRITTEN, &given, records).len();
     let bad: Vec<Vec<String>> = records
         .iter()
         .map(|record| written_causes(boards, record))
@@ -115,7 +115,7 @@ fn written(left: usize, ids: &[Vec<u8>], records: &[Captured]) -> Vec<String> {
     also([
         (true, rest),
         (boards == 1, "1 board"),
-        (boards == MOST_BOARDS, "16 boards"),
+        (boards == 16, "16 boards"),
         (records.is_empty(), "no record"),
         (records.len() > 255, "more than 255 records"),
         (
