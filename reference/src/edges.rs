@@ -195,7 +195,7 @@ mod tests {
     fn no_line_is_longer_than_a_replay_must_hold() {
         let list = list();
         let is_capture = |entry: &&Entry| {
-            let calls = ["capread ", "capwrite ", "summary "];
+            let calls = ["capread ", "capwrite ", "summary ", "rewrite "];
             calls.iter().any(|call| entry.line.starts_with(call))
         };
         let (captures, board): (Vec<&Entry>, Vec<&Entry>) = list.iter().partition(is_capture);

@@ -1,6 +1,6 @@
 //! The summary: how each packet is judged, and how the pairs are counted.
 
-use super::{START, ids_of, one_board, record, sum_up};
+use super::{FORMS, Form, ONE_BOARD, TWO, record, sum_up};
 use crate::edges::examples::{E1, E2};
 use crate::edges::{Edges, ID, PASSWORD, ZERO_ID, framed};
 use crate::packet;
@@ -8,14 +8,20 @@ use crate::packet;
 pub fn add(edges: &mut Edges) {
     judged(edges);
     judged_frames(edges);
-    summaries(edges);
+    for form in FORMS {
+        summaries(edges, form);
+        counts(edges, form);
+    }
+    long_indices(edges);
 }
 
-/// Judges one packet as a request and as a response.
+/// Judges one packet as a request and as a response, in a capture of either version.
 fn judge(edges: &mut Edges, packet: &str, request: u8, response: u8) {
     for (direction, number) in [(0, request), (1, response)] {
-        let capture = format!("{} {}", one_board(), record(direction, packet));
-        sum_up(edges, &capture, &format!("0,{number},1"));
+        let capture = format!("{ONE_BOARD} {}", record(direction, packet));
+        for form in FORMS {
+            sum_up(edges, form, &capture, &format!("0,{number},1"));
+        }
     }
 }
 
@@ -117,14 +123,23 @@ fn judged_frames(edges: &mut Edges) {
     judge(edges, &packet, 0, 9);
 }
 
-fn summaries(edges: &mut Edges) {
+/// A record of board 0 as one of another board.
+fn of_board(index: usize, record: &str) -> String {
+    record.replacen("#0", &format!("#{index}"), 1)
+}
+
+/// A head of so many boards.
+fn boards(count: usize) -> String {
+    format!("VLG #{count} {}", "30".repeat(16 * count))
+}
+
+fn summaries(edges: &mut Edges, form: Form) {
     edges.rule("Pairs ascend by index, then by number, 10 behind 9; requests and responses are counted together");
     let good = record(0, E1);
     let answered = record(1, E2);
     let wrong = record(1, E1);
     let empty = record(0, "");
     let cut = record(0, &framed(&ID, b"", 3, "01"));
-    let of_board = |index: u8, record: &str| format!("{index:02X}{}", &record[2..]);
     let records = [
         of_board(10, &good),
         of_board(2, &cut),
@@ -136,19 +151,42 @@ fn summaries(edges: &mut Edges) {
         of_board(9, &empty),
         of_board(2, &cut),
     ];
-    let head = format!("{START} 0B {}", ids_of(11));
+    let head = boards(11);
     let capture = format!("{head} {}", records.join(" "));
     let lines = "0,0,1|2,0,2|2,2,1|2,9,1|2,10,2|9,2,1|10,0,1";
-    sum_up(edges, &capture, lines);
+    sum_up(edges, form, &capture, lines);
     edges.rule("A refused capture adds a last line; what comes after it is not counted");
     let refused = format!("{lines}|refused,53");
-    sum_up(edges, &format!("{capture} 00"), &refused);
+    sum_up(edges, form, &format!("{capture} 00"), &refused);
     let behind = of_board(11, &good);
-    sum_up(edges, &format!("{capture} {behind} {good}"), &refused);
-    sum_up(edges, &format!("{head} 0B {good}"), "refused,53");
+    sum_up(edges, form, &format!("{capture} {behind} {good}"), &refused);
+    sum_up(
+        edges,
+        form,
+        &format!("{head} {behind} {good}"),
+        "refused,53",
+    );
+}
+
+fn counts(edges: &mut Edges, form: Form) {
     edges.rule("Counts of two and three digits");
+    let empty = record(0, "");
     for count in [9, 10, 99, 100, 255, 256, 257, 300] {
-        let capture = format!("{} {}", one_board(), empty.repeat(count));
-        sum_up(edges, &capture, &format!("0,2,{count}"));
+        let records = format!(" {empty}").repeat(count);
+        let capture = format!("{ONE_BOARD}{records}");
+        sum_up(edges, form, &capture, &format!("0,2,{count}"));
     }
+}
+
+fn long_indices(edges: &mut Edges) {
+    edges.rule("Indices of one to three digits ascend by number, not by text");
+    let (good, empty) = (record(0, E1), record(1, ""));
+    let records = [999, 256, 100, 10, 257, 1, 99, 255].map(|index| of_board(index, &empty));
+    let more = [256, 2].map(|index| of_board(index, &good));
+    let capture = format!("{} {} {}", boards(1_000), records.join(" "), more.join(" "));
+    let lines = "1,2,1|2,0,1|10,2,1|99,2,1|100,2,1|255,2,1|256,0,1|256,2,1|257,2,1|999,2,1";
+    sum_up(edges, TWO, &capture, lines);
+    let behind = of_board(1_000, &good);
+    let refused = format!("{lines}|refused,53");
+    sum_up(edges, TWO, &format!("{capture} {behind}"), &refused);
 }

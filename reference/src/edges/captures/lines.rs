@@ -1,25 +1,40 @@
 //! The longest lines, and lines that are no call on captures.
 
-use super::{A, field, one_board, read, record, sum_up};
+use super::{A, ONE, ONE_BOARD, TWO, record, written};
 use crate::edges::Edges;
+use crate::hex;
 
 pub fn add(edges: &mut Edges) {
     long_lines(edges);
+    long_writes(edges);
     bad_lines(edges);
 }
 
 fn long_lines(edges: &mut Edges) {
-    edges.rule("Lines of 65,536 characters: a capture read and summed up, sound and with its last byte missing");
-    // 22 bytes of head, 4,091 records of 8 bytes and one of 8 and 6 are 32,764 bytes.
-    let empty = record(0, "");
-    let last = record(0, "AA AA AA AA AA AA");
-    let capture = format!("{} {} {last}", one_board(), empty.repeat(4_091));
-    let shown = format!(" id:{A}{}", " rec:0.0.0.-".repeat(4_091));
-    read(edges, &capture, &format!("{shown} rec:0.0.0.AAAAAAAAAAAA"));
-    sum_up(edges, &capture, "0,2,4092");
-    let cut = &capture[..capture.len() - 2];
-    read(edges, cut, &format!("{shown} refused 53"));
-    sum_up(edges, cut, "0,2,4091|refused,53");
+    edges.rule("Lines of 65,536 characters: a capture of 32,764 bytes read and summed up, sound and with its last byte missing");
+    // A head, so many empty records and one with these bytes: 22, 4,091 times 8 and 14, or 23, 3,636 times 9 and 17.
+    for (form, count, packet) in [
+        (ONE, 4_091, "AAAAAAAAAAAA"),
+        (TWO, 3_636, "AAAAAAAAAAAAAAAA"),
+    ] {
+        let capture = format!("{} {}", empty_records(count), record(0, packet));
+        let capture = form.bytes(&capture);
+        let (whole, cut) = (hex::field(&capture), hex::field(&capture[..32_763]));
+        let shown = format!(" id:{A}{}", " rec:0.0.0.-".repeat(count));
+        let read = format!("version {}{shown}", form.version);
+        let last = format!(" rec:0.0.0.{packet}");
+        edges.line(format!("capread {whole}"), format!("{read}{last}"));
+        edges.line(format!("summary {whole}"), format!("0,2,{}", count + 1));
+        edges.line(format!("capread {cut}"), format!("{read} refused 53"));
+        edges.line(format!("summary {cut}"), format!("0,2,{count}|refused,53"));
+    }
+    edges.rule("A line of 65,536 characters: 32,760 bytes of version 1, rewritten as more than a line can have");
+    let capture = format!("{} {}", empty_records(4_091), record(0, "AAAA"));
+    let whole = hex::field(&ONE.bytes(&capture));
+    edges.line(format!("rewrite 1048576 {whole}"), written(&capture));
+}
+
+fn long_writes(edges: &mut Edges) {
     edges.rule("A line of 65,536 characters: as many records as it can have");
     let head = format!("capwrite 1048576 {A}");
     let count = (65_536 - head.len()) / 8;
@@ -29,12 +44,17 @@ fn long_lines(edges: &mut Edges) {
     let line = format!("{head}{records} 0.2.{counter}.-");
     edges.line(line, "refused 53");
     let line = format!("{head}{records} 0.0.0.-");
-    let capture = format!("{} {}", one_board(), empty.repeat(count));
-    edges.line(line, format!("capture {}", field(&capture)));
+    edges.line(line, written(&empty_records(count)));
+}
+
+/// Board A and so many records without a packet.
+fn empty_records(count: usize) -> String {
+    let record = format!(" {}", record(0, ""));
+    format!("{ONE_BOARD}{}", record.repeat(count))
 }
 
 /// Bad forms of the calls on captures.
-const BAD: [&str; 63] = [
+const BAD: [&str; 86] = [
     "capread",
     "capread ",
     "capread  -",
@@ -98,6 +118,29 @@ const BAD: [&str; 63] = [
     "capwrite 0 - 0.0.0.-.",
     "capwrite 0 - 0.0.0.-.-",
     "capwrite 0 - 0:0:0:-",
+    "rewrite",
+    "rewrite ",
+    "rewrite -",
+    "rewrite 0",
+    "rewrite 0 ",
+    "rewrite 0  -",
+    "rewrite 0 - ",
+    "rewrite 0 - -",
+    "rewrite - -",
+    "rewrite - 0",
+    "rewrite 00 -",
+    "rewrite +1 -",
+    "rewrite -1 -",
+    "rewrite 1048577 -",
+    "rewrite 18446744073709551616 -",
+    "rewrite 0 5",
+    "rewrite 0 564c47",
+    "rewrite 0 56 4C",
+    "rewrite 0 --",
+    "rewrite 0 -\r",
+    "Rewrite 0 -",
+    "rewrites 0 -",
+    "caprewrite 0 -",
 ];
 
 /// Records in a bad form; the writer would refuse the call anyway.
@@ -144,4 +187,5 @@ fn bad_lines(edges: &mut Edges) {
     );
     edges.line("capwrite 0 00", "refused 52");
     edges.line("capwrite 1048576 -", "refused 52");
+    edges.line("rewrite 1048576 -", "refused 50");
 }
