@@ -61,12 +61,13 @@ const BOARD_SCENARIOS: [Weighted; 24] = [
     (3, Generator::show_record),
 ];
 
-const CAPTURE_SCENARIOS: [Weighted; 6] = [
-    (18, Generator::sound_capture),
-    (50, Generator::damaged_capture),
+const CAPTURE_SCENARIOS: [Weighted; 7] = [
+    (16, Generator::sound_capture),
+    (72, Generator::damaged_capture),
     (3, Generator::noise_capture),
-    (14, Generator::capture_write),
-    (24, Generator::faulty_capture_write),
+    (10, Generator::many_boards),
+    (12, Generator::capture_write),
+    (20, Generator::faulty_capture_write),
     (2, Generator::bad_capture_line),
 ];
 

@@ -11,6 +11,7 @@ use crate::generate::Subject;
 use crate::packet::{self, CODE_WORD, LONGEST};
 use crate::record::{CLIENT, Record};
 use crate::replay::BAD_LINE;
+use captures::Written;
 
 /// What a comparison of the board has to meet: each call with its refusals and its other answers.
 const EXPECTED: [(&str, &[u8], &[&str]); 9] = [
@@ -48,8 +49,7 @@ pub fn refusals(call: &str) -> &'static [u8] {
 pub struct Tally {
     subject: Subject,
     counts: BTreeMap<String, usize>,
-    /// The last capture that was written, as a field.
-    written: String,
+    written: Written,
 }
 
 impl Tally {
@@ -72,9 +72,7 @@ impl Tally {
         for name in captures::met(line, answer, &self.written) {
             *self.counts.entry(name).or_default() += 1;
         }
-        if let Some(capture) = answer.strip_prefix("capture ") {
-            self.written = capture.to_string();
-        }
+        self.written.keep(line, answer);
     }
 
     fn add_board(&mut self, line: &str, answer: &str, record: &Record) {
@@ -196,10 +194,10 @@ mod tests {
 
     #[test]
     fn generated_lists_meet_every_answer_often() {
-        for (subject, count) in [(Subject::Board, 30_000), (Subject::Captures, 20_000)] {
+        for subject in [Subject::Board, Subject::Captures] {
             let mut tally = Tally::new(subject);
             let mut session = Session::new();
-            for line in subject.list(1, count) {
+            for line in subject.list(1, 30_000) {
                 if let Some(answer) = session.line(line.as_bytes()) {
                     tally.add(&line, &answer, &session.record);
                 }

@@ -1,6 +1,7 @@
-//! Calls on captures: sound and damaged ones are read and summed up, others are written and read back.
+//! Calls on captures: sound and damaged ones are read, summed up and rewritten, others are written and read back.
 
 use super::capture_damage::Sketch;
+use super::captured::Contents;
 use super::{Generator, captured};
 use crate::call::{Call, MOST_ROOM};
 use crate::capture::{self, Captured, Version};
@@ -12,7 +13,7 @@ use crate::random::Random;
 pub const LONGEST_LINE: usize = 65_536;
 
 /// Lines that have none of the forms.
-const BAD_LINES: [&str; 40] = [
+const BAD_LINES: [&str; 52] = [
     "capread",
     "capread ",
     "capread  -",
@@ -53,61 +54,89 @@ const BAD_LINES: [&str; 40] = [
     "capwrite 0 - 0.0.4294967296.-",
     "capwrite 0 - 0.0.00.-",
     "capwrite 0 - 0.0.0.- x",
+    "rewrite",
+    "rewrite -",
+    "rewrite 0",
+    "rewrite 0 ",
+    "rewrite 0  -",
+    "rewrite 0 - -",
+    "rewrite 00 -",
+    "rewrite - -",
+    "rewrite 1048577 -",
+    "rewrite 0 564c47",
+    "rewrite 0 56 4C",
+    "Rewrite 0 -",
 ];
 
 impl Generator {
     /// A capture that is accepted.
     pub fn sound_capture(&mut self) {
-        let (ids, records) = self.contents();
-        let sketch = Sketch::new(&ids, &records);
-        self.read_and_sum_up(sketch.bytes);
+        let contents = self.few_boards();
+        self.take(contents.bytes());
     }
 
     /// A capture with one kind of damage, now and then with two.
     pub fn damaged_capture(&mut self) {
-        let (ids, records) = self.contents();
-        let mut capture = Sketch::new(&ids, &records);
+        let contents = self.few_boards();
+        self.take_damaged(&contents);
+    }
+
+    fn take_damaged(&mut self, contents: &Contents) {
+        let mut capture = Sketch::new(contents);
         capture.damage(&mut self.random);
         if self.random.chance(5) && !capture.bytes.is_empty() {
             let place = self.random.between(0, capture.bytes.len() - 1);
             capture.bytes[place] ^= 1 << self.random.between(0, 7);
         }
-        self.read_and_sum_up(capture.bytes);
+        self.take(capture.bytes);
     }
 
     /// Noise, alone or behind a mark, a version or a board count.
     pub fn noise_capture(&mut self) {
-        let mut capture = b"VLG\x01\x00\x01".to_vec();
-        capture.truncate(self.random.pick(&[0, 3, 5, 6, 6]));
+        let heads = [&b"VLG\x01\x00\x01"[..], b"VLG\x02\x00\x01\x00"];
+        let mut capture = self.random.pick(&heads).to_vec();
+        capture.truncate(self.random.pick(&[0, 3, 5, 6, 7, 7]));
         let count = self.random.between(0, 40);
         let noise = self.random.bytes(count);
         capture.extend_from_slice(&noise);
-        self.read_and_sum_up(capture);
+        self.take(capture);
+    }
+
+    /// A capture of many boards: sound, damaged or written.
+    pub fn many_boards(&mut self) {
+        let contents = Contents::many_boards(&mut self.random);
+        match self.random.between(0, 8) {
+            0..=3 => self.take(contents.bytes()),
+            4 => self.take_damaged(&contents),
+            5 => self.write_faulty(contents),
+            _ => self.write_sound(contents),
+        }
     }
 
     /// A capture that is written if the buffer is long enough, and then read back.
     pub fn capture_write(&mut self) {
-        let (ids, records) = self.contents();
-        let size = capture::compose(Version::One, &ids.concat(), &records).len();
-        let room = self.random.pick(&[
-            size,
-            size,
-            size,
-            size + 1,
-            size + 1,
-            size - 1,
-            size - 1,
-            size + 300,
-            size / 2,
-            0,
-        ]);
-        self.write_capture(room, ids, records);
+        let contents = Contents::few_boards(&mut self.random, Version::WRITTEN);
+        self.write_sound(contents);
+    }
+
+    fn write_sound(&mut self, contents: Contents) {
+        let room = self.room_for(contents.bytes().len());
+        self.write_capture(room, contents.ids, contents.records);
     }
 
     /// A capture of which IDs, records and room are each wrong with some chance.
     pub fn faulty_capture_write(&mut self) {
-        let (mut ids, mut records) = self.contents();
-        let size = capture::compose(Version::One, &ids.concat(), &records).len();
+        let contents = Contents::few_boards(&mut self.random, Version::WRITTEN);
+        self.write_faulty(contents);
+    }
+
+    fn write_faulty(&mut self, contents: Contents) {
+        let size = contents.bytes().len();
+        let Contents {
+            mut ids,
+            mut records,
+            ..
+        } = contents;
         let random = &mut self.random;
         if random.chance(70) {
             let late = captured::record(random, &ids);
@@ -139,47 +168,50 @@ impl Generator {
             self.long_write(ids);
             return;
         }
-        let longest = (LONGEST_LINE - "capread ".len()) / 2;
+        let word = self
+            .random
+            .pick(&["capread ", "summary ", "rewrite 1048576 "]);
+        let longest = (LONGEST_LINE - word.len()) / 2;
+        let version = self.version();
         let records = match self.random.chance(70) {
-            true => self.records_of(&ids, longest),
+            true => self.records_of(version, &ids, longest),
             false => Vec::new(),
         };
-        let mut bytes = Sketch::new(&ids, &records).bytes;
+        let mut bytes = capture::compose(version, &ids.concat(), &records);
         // What is filled up has records without a packet, as many as there is place for, and then a cut one.
         bytes.resize(longest, 0);
-        self.read_and_sum_up(bytes);
+        self.line(format!("{word}{}", hex::field(&bytes)));
     }
 
     fn long_write(&mut self, ids: Vec<Vec<u8>>) {
         let room = self.random.pick(&[MOST_ROOM, MOST_ROOM, 100_000, 32_000]);
         let records = match self.random.chance(50) {
             true => vec![captured::record(&mut self.random, &ids)],
-            false => self.records_of(&ids, 30_000),
+            false => self.records_of(Version::WRITTEN, &ids, 30_000),
         };
         let records = filled_up(room, &ids, records);
         self.write_capture(room, ids, records);
     }
 
-    fn contents(&mut self) -> (Vec<Vec<u8>>, Vec<Captured>) {
-        let random = &mut self.random;
-        let boards = captured::board_count(random);
-        let ids = captured::ids(random, boards);
-        let records = match random.chance(3) {
-            true => captured::many_records(random, &ids),
-            false => captured::records(random, &ids),
-        };
-        (ids, records)
+    fn version(&mut self) -> Version {
+        self.random.pick(&Version::ALL)
+    }
+
+    /// What a capture of either version and of a few boards holds.
+    fn few_boards(&mut self) -> Contents {
+        let version = self.version();
+        Contents::few_boards(&mut self.random, version)
     }
 
     /// Records that make a capture of at most so many bytes, and nearly so many.
-    fn records_of(&mut self, ids: &[Vec<u8>], size: usize) -> Vec<Captured> {
-        let head = capture::compose(Version::One, &ids.concat(), &[]).len();
+    fn records_of(&mut self, version: Version, ids: &[Vec<u8>], size: usize) -> Vec<Captured> {
+        let head = capture::compose(version, &ids.concat(), &[]).len();
         let mut rest = size - head;
         let mut records = Vec::new();
         loop {
             let record = captured::record(&mut self.random, ids);
-            let Some(left) = rest.checked_sub(Version::One.record_head() + record.packet.len())
-            else {
+            let size = version.record_head() + record.packet.len();
+            let Some(left) = rest.checked_sub(size) else {
                 return records;
             };
             rest = left;
@@ -187,27 +219,71 @@ impl Generator {
         }
     }
 
+    /// Room for so many bytes in most cases, often exactly so much or one byte less.
+    fn room_for(&mut self, size: usize) -> usize {
+        self.random.pick(&[
+            size,
+            size,
+            size,
+            size + 1,
+            size + 1,
+            size - 1,
+            size - 1,
+            size + 300,
+            size / 2,
+            0,
+        ])
+    }
+
     fn write_capture(&mut self, room: usize, ids: Vec<Vec<u8>>, records: Vec<Captured>) {
-        let answer = self.call(Call::CaptureWrite { room, ids, records });
-        let written = answer.strip_prefix("capture ").and_then(hex::parse_field);
+        let answer = self.capture_call(Call::CaptureWrite { room, ids, records });
+        self.read_back(&answer);
+    }
+
+    fn rewrite(&mut self, capture: Vec<u8>) {
+        let reading = capture::read(&capture);
+        let ids = reading.ids.concat();
+        let size = capture::compose(Version::WRITTEN, &ids, &reading.records).len();
+        let room = self.room_for(size);
+        let answer = self.capture_call(Call::Rewrite { room, capture });
+        self.read_back(&answer);
+    }
+
+    /// Takes what a writer has written, in some cases.
+    fn read_back(&mut self, answer: &str) {
+        let Some(written) = answer.strip_prefix("capture ") else {
+            return;
+        };
+        // Behind a space may stand that the rewritten capture was refused.
+        let written = written.split(' ').next().and_then(hex::parse_field);
         if let Some(capture) = written.filter(|_| self.random.chance(60)) {
-            self.read_and_sum_up(capture);
+            self.take(capture);
         }
     }
 
-    /// Reads the capture, sums it up, or both, if the line is not too long.
-    fn read_and_sum_up(&mut self, capture: Vec<u8>) {
-        if "capread ".len() + 2 * capture.len() > LONGEST_LINE {
-            return;
-        }
-        let choice = self.random.between(0, 3);
-        if choice != 0 {
-            self.call(Call::Summary {
+    /// Reads the capture, sums it up or rewrites it, in some cases two of these.
+    fn take(&mut self, capture: Vec<u8>) {
+        let choice = self.random.between(0, 6);
+        if choice <= 2 {
+            self.capture_call(Call::Summary {
                 capture: capture.clone(),
             });
         }
-        if choice != 1 {
-            self.call(Call::CaptureRead { capture });
+        match choice {
+            0 => {}
+            1..=3 => {
+                self.capture_call(Call::CaptureRead { capture });
+            }
+            _ => self.rewrite(capture),
+        }
+    }
+
+    /// Makes a call if its line is not too long.
+    fn capture_call(&mut self, call: Call) -> String {
+        let line = call.to_string();
+        match line.len() <= LONGEST_LINE {
+            true => self.line(line),
+            false => String::new(),
         }
     }
 }
@@ -248,6 +324,7 @@ fn insert_out_of_range(
                 255,
                 256,
                 257,
+                1_000,
                 65_280,
                 65_535,
             ];
@@ -267,16 +344,16 @@ fn insert_out_of_range(
 /// Gives the writer other IDs: none, too many, of another length, or the same bytes in other parts.
 fn change_ids(random: &mut Random, ids: &mut Vec<Vec<u8>>) {
     let last = ids.len() - 1;
-    match random.between(0, 6) {
-        0 => ids.clear(),
-        1 => {
-            let boards = random.pick(&[17, 17, 18, 32]);
+    match random.between(0, 12) {
+        0..=1 => ids.clear(),
+        2 => {
+            let boards = random.pick(&[1_001, 1_001, 1_002, 1_024]);
             *ids = captured::ids(random, boards);
         }
-        2 => ids[last].truncate(random.pick(&[1, 8, 15, 15])),
-        3 => ids[last].push(random.byte()),
-        4 => {
-            let length = random.pick(&[1, 15, 16, 17, 255, 256, 257]);
+        3..=4 => ids[last].truncate(random.pick(&[1, 8, 15, 15])),
+        5..=6 => ids[last].push(random.byte()),
+        7..=8 => {
+            let length = random.pick(&[1, 15, 16, 17, 255, 256, 257, 272]);
             *ids = vec![random.bytes(length)];
         }
         _ => {

@@ -2,7 +2,7 @@
 
 use super::{blocks, identities, packets};
 use crate::board;
-use crate::capture::{Captured, REQUEST, RESPONSE};
+use crate::capture::{self, Captured, REQUEST, RESPONSE, Version};
 use crate::packet::{self, CODE_WORD, LONGEST};
 use crate::random::Random;
 use crate::record::{self, ACCESS_POINT};
@@ -23,10 +23,54 @@ const COUNTERS: [u32; 10] = [
 /// Room for the data blocks of most packets, so that lines stay short.
 const USUAL_ROOM: usize = 60;
 
+/// Many boards: about as many as a byte counts, and as a capture may have; the last are too many.
+const MANY_BOARDS: [usize; 6] = [255, 256, 257, 999, 1_000, 1_001];
+
+/// What a capture holds, and the version that it is for.
+pub struct Contents {
+    pub version: Version,
+    pub ids: Vec<Vec<u8>>,
+    pub records: Vec<Captured>,
+}
+
+impl Contents {
+    /// A capture of a few boards.
+    pub fn few_boards(random: &mut Random, version: Version) -> Contents {
+        let boards = board_count(random, version);
+        let ids = ids(random, boards);
+        let records = match random.chance(3) {
+            true => many_records(random, &ids),
+            false => records(random, &ids),
+        };
+        Contents {
+            version,
+            ids,
+            records,
+        }
+    }
+
+    /// A capture of many boards, which version 2 alone can have.
+    pub fn many_boards(random: &mut Random) -> Contents {
+        let boards = random.pick(&MANY_BOARDS);
+        let ids = ids(random, boards);
+        let records = records(random, &ids);
+        Contents {
+            version: Version::Two,
+            ids,
+            records,
+        }
+    }
+
+    pub fn bytes(&self) -> Vec<u8> {
+        capture::compose(self.version, &self.ids.concat(), &self.records)
+    }
+}
+
 /// The number of boards of a capture, mostly one or two.
-pub fn board_count(random: &mut Random) -> usize {
+fn board_count(random: &mut Random, version: Version) -> usize {
     let any = random.between(1, 16);
-    random.pick(&[1, 1, 1, 1, 2, 2, 3, 15, 16, any])
+    let more = version.most_boards().min(17);
+    random.pick(&[1, 1, 1, 1, 2, 2, 3, 15, 16, more, any])
 }
 
 /// IDs of boards, equal ones and the code word among them.
@@ -34,22 +78,18 @@ pub fn ids(random: &mut Random, boards: usize) -> Vec<Vec<u8>> {
     let first = identities::legal_id(random);
     let mut ids = vec![first.clone()];
     while ids.len() < boards {
-        let other = identities::legal_id(random);
-        let near = identities::other_id(random, &first);
-        let choices = [
-            other.clone(),
-            other,
-            near,
-            first.clone(),
-            CODE_WORD.to_vec(),
-        ];
-        ids.push(random.pick(&choices));
+        ids.push(match random.between(0, 4) {
+            0 => identities::other_id(random, &first),
+            1 => first.clone(),
+            2 => CODE_WORD.to_vec(),
+            _ => identities::legal_id(random),
+        });
     }
     ids
 }
 
 /// Records that a capture of these boards may have.
-pub fn records(random: &mut Random, ids: &[Vec<u8>]) -> Vec<Captured> {
+fn records(random: &mut Random, ids: &[Vec<u8>]) -> Vec<Captured> {
     let mut records = Vec::new();
     let count = random.pick(&[0, 1, 1, 2, 2, 3, 5]);
     while records.len() < count {
@@ -63,7 +103,7 @@ pub fn records(random: &mut Random, ids: &[Vec<u8>]) -> Vec<Captured> {
 }
 
 /// Many short records, more than a byte can count now and then.
-pub fn many_records(random: &mut Random, ids: &[Vec<u8>]) -> Vec<Captured> {
+fn many_records(random: &mut Random, ids: &[Vec<u8>]) -> Vec<Captured> {
     let count = random.pick(&[20, 60, 256, 257, 300, 350]);
     let mut next = || {
         let mut record = record(random, ids);
@@ -94,8 +134,10 @@ pub fn record(random: &mut Random, ids: &[Vec<u8>]) -> Captured {
 }
 
 fn index(random: &mut Random, boards: usize) -> usize {
-    let any = random.between(0, boards - 1);
-    random.pick(&[0, boards - 1, any])
+    let (any, last) = (random.between(0, boards - 1), boards - 1);
+    // Another digit, another byte.
+    let edge = random.pick(&[9, 10, 99, 100, 255, 256]);
+    random.pick(&[0, last, any, edge.min(last)])
 }
 
 fn counter(random: &mut Random) -> u32 {
@@ -175,25 +217,31 @@ fn exchange(random: &mut Random, ids: &[Vec<u8>], records: &mut Vec<Captured>) {
 #[cfg(test)]
 mod tests {
     use super::*;
-    use crate::capture;
 
     #[test]
-    fn captures_of_such_records_are_accepted() {
+    fn captures_of_few_boards_are_accepted() {
         let mut random = Random::new(12);
-        for _ in 0..500 {
-            let boards = board_count(&mut random);
-            let ids = ids(&mut random, boards);
-            assert_eq!(ids.concat().len(), 16 * boards);
-            let records = match random.chance(10) {
-                true => many_records(&mut random, &ids),
-                false => records(&mut random, &ids),
-            };
-            let reading = capture::read(&capture::compose(
-                capture::Version::One,
-                &ids.concat(),
-                &records,
-            ));
-            assert_eq!((reading.refusal, reading.records), (None, records));
+        for version in [Version::One, Version::Two].repeat(250) {
+            let contents = Contents::few_boards(&mut random, version);
+            let reading = capture::read(&contents.bytes());
+            assert_eq!((reading.version, reading.refusal), (Some(version), None));
+            assert_eq!(reading.ids.concat(), contents.ids.concat());
+            assert_eq!(reading.records, contents.records);
+        }
+    }
+
+    #[test]
+    fn captures_of_many_boards_are_accepted_up_to_the_most() {
+        let mut random = Random::new(12);
+        for _ in 0..50 {
+            let contents = Contents::many_boards(&mut random);
+            let reading = capture::read(&contents.bytes());
+            let accepted = contents.ids.len() <= 1_000;
+            assert_eq!(reading.refusal.is_none(), accepted);
+            if accepted {
+                assert_eq!(reading.ids.concat(), contents.ids.concat());
+                assert_eq!(reading.records, contents.records);
+            }
         }
     }
 }

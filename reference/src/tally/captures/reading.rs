@@ -2,22 +2,14 @@
 
 use std::collections::BTreeSet;
 
-use super::also;
-use crate::capture::{self, Captured, Reading};
+use super::{Written, also, boards_of, index_causes, of_each_version};
+use crate::capture::{self, Captured, Reading, START, Version};
 use crate::packet::{ID_SIZE, LONGEST};
 use crate::refusal::Refusal;
 use crate::summary;
 
-/// What a reading meets, by `capread` and by `summary`.
-pub const READINGS: [&str; 43] = [
-    "accepted",
-    "accepted: no record",
-    "accepted: 1 board",
-    "accepted: 2 boards",
-    "accepted: 15 boards",
-    "accepted: 16 boards",
-    "accepted: equal IDs",
-    "accepted: what capwrite wrote",
+/// What a refused mark or version meets.
+const STARTS: [&str; 12] = [
     "refused 50: cut after 0 bytes",
     "refused 50: cut after 1 bytes",
     "refused 50: cut after 2 bytes",
@@ -25,13 +17,24 @@ pub const READINGS: [&str; 43] = [
     "refused 51: cut after 3 bytes",
     "refused 51: cut after 4 bytes",
     "refused 51: version 0",
-    "refused 51: version 2",
+    "refused 51: version 3",
     "refused 51: version 256",
     "refused 51: version 257",
+    "refused 51: version 512",
+    "refused 51: version 513",
+];
+
+/// What a reading of either version meets.
+const READINGS: [&str; 30] = [
+    "accepted",
+    "accepted: no record",
+    "accepted: 1 board",
+    "accepted: 2 boards",
+    "accepted: 15 boards",
+    "accepted: 16 boards",
+    "accepted: equal IDs",
     "refused 52: cut after 5 bytes",
     "refused 52: 0 boards",
-    "refused 52: 17 boards",
-    "refused 52: 255 boards",
     "refused 52: IDs cut short",
     "refused 52: IDs cut short by one byte",
     "refused 53: no record before",
@@ -55,10 +58,34 @@ pub const READINGS: [&str; 43] = [
     "refused 53: cut after 7 bytes of a record",
 ];
 
+/// What a reading of version 1 alone meets.
+const READINGS_OF_ONE: [&str; 2] = ["refused 52: 17 boards", "refused 52: 255 boards"];
+
+/// What a reading of version 2 alone meets.
+const READINGS_OF_TWO: [&str; 14] = [
+    "accepted: 17 boards",
+    "accepted: 255 boards",
+    "accepted: 256 boards",
+    "accepted: 257 boards",
+    "accepted: 999 boards",
+    "accepted: 1000 boards",
+    "accepted: what capwrite wrote",
+    "accepted: what rewrite wrote",
+    "refused 52: cut after 6 bytes",
+    "refused 52: 1001 boards",
+    "refused 52: 65535 boards",
+    "refused 53: index 65535",
+    "refused 53: index over 255, low byte in range",
+    "refused 53: cut after 8 bytes of a record",
+];
+
 /// What the records of a reading meet.
-pub const RECORDS: [&str; 19] = [
+pub const RECORDS: [&str; 22] = [
     "index 0",
     "index 15",
+    "index 255",
+    "index 256",
+    "index 999",
     "direction 0",
     "direction 1",
     "counter 0",
@@ -78,27 +105,34 @@ pub const RECORDS: [&str; 19] = [
     "a damaged packet",
 ];
 
-/// `written` is the last capture that was written.
-pub fn met(line: &str, capture: &[u8], written: &str) -> BTreeSet<String> {
+/// What `capread` and `summary` have to meet.
+pub fn expected() -> Vec<String> {
+    let of_each_version = of_each_version(&READINGS, &READINGS_OF_ONE, &READINGS_OF_TWO);
+    let others = STARTS.iter().chain(&RECORDS).map(|name| name.to_string());
+    others.chain(of_each_version).collect()
+}
+
+pub fn met(line: &str, capture: &[u8], written: &Written) -> BTreeSet<String> {
     let reading = capture::read(capture);
     let mut names: BTreeSet<String> = reading.records.iter().flat_map(record).collect();
     if reading.records.len() > 255 {
         names.insert("more than 255 records".to_string());
     }
-    match reading.refusal {
-        None => {
-            names.insert("accepted".to_string());
-            names.extend(accepted(&reading).map(|name| format!("accepted: {name}")));
-            if line.split(' ').nth(1) == Some(written) {
-                names.insert("accepted: what capwrite wrote".to_string());
-            }
-        }
+    let outcomes = match reading.refusal {
+        None => accepted(line, &reading, written),
         Some(refusal) => {
             let number = refusal.number();
             let causes = causes(capture, &reading, refusal).into_iter();
-            names.extend(causes.map(|cause| format!("refused {number}: {cause}")));
+            causes
+                .map(|cause| format!("refused {number}: {cause}"))
+                .collect()
         }
-    }
+    };
+    let version = match reading.version {
+        Some(version) => format!("version {} ", version.number()),
+        None => String::new(),
+    };
+    names.extend(outcomes.iter().map(|outcome| format!("{version}{outcome}")));
     names
 }
 
@@ -116,40 +150,43 @@ fn record(record: &Captured) -> Vec<String> {
     names
 }
 
-fn accepted(reading: &Reading) -> impl Iterator<Item = String> {
+fn accepted(line: &str, reading: &Reading, written: &Written) -> Vec<String> {
     let boards = reading.ids.len();
-    let plural = if boards == 1 { "" } else { "s" };
     let distinct: BTreeSet<_> = reading.ids.iter().collect();
-    let equal = (distinct.len() < boards).then(|| "equal IDs".to_string());
-    let empty = reading.records.is_empty().then(|| "no record".to_string());
-    [format!("{boards} board{plural}")]
-        .into_iter()
-        .chain(equal)
-        .chain(empty)
+    let is_written = line.split(' ').nth(1) == Some(&written.capture);
+    let (boards_of, writer) = (boards_of(boards), format!("what {} wrote", written.call));
+    let names = also([
+        (true, &boards_of[..]),
+        (distinct.len() < boards, "equal IDs"),
+        (reading.records.is_empty(), "no record"),
+        (is_written, &writer),
+    ]);
+    let names = names.map(|name| format!("accepted: {name}"));
+    names.chain(["accepted".to_string()]).collect()
 }
 
 /// Why a reading is refused, all causes that hold.
-fn causes(capture: &[u8], reading: &Reading, refusal: Refusal) -> Vec<String> {
-    let length = capture.len();
-    let cut = vec![format!("cut after {length} bytes")];
-    match (refusal, capture) {
-        (Refusal::CaptureMark, [_, _, _, ..]) => vec!["another mark".to_string()],
-        (Refusal::CaptureVersion, [_, _, _, low, high, ..]) => {
-            let version = u16::from_le_bytes([*low, *high]);
-            vec![format!("version {version}")]
-        }
-        (Refusal::CaptureBoards, [_, _, _, _, _, count, ids @ ..]) => {
-            let bytes = ID_SIZE * usize::from(*count);
-            match usize::from(*count) {
-                1..=16 => cut_short("IDs", bytes - ids.len()),
-                count => vec![format!("{count} boards")],
+pub fn causes(capture: &[u8], reading: &Reading, refusal: Refusal) -> Vec<String> {
+    let cut = vec![format!("cut after {} bytes", capture.len())];
+    let Some(version) = reading.version else {
+        return match (refusal, capture) {
+            (Refusal::CaptureMark, [_, _, _, ..]) => vec!["another mark".to_string()],
+            (Refusal::CaptureVersion, [_, _, _, low, high, ..]) => {
+                let version = u16::from_le_bytes([*low, *high]);
+                vec![format!("version {version}")]
             }
-        }
-        (Refusal::CaptureRecord, _) => {
+            _ => cut,
+        };
+    };
+    match refusal {
+        Refusal::CaptureBoards => board_causes(version, &capture[START..]).unwrap_or(cut),
+        _ => {
             let records = &reading.records;
-            let sizes = records.iter().map(|record| 8 + record.packet.len());
-            let start = 6 + ID_SIZE * reading.ids.len() + sizes.sum::<usize>();
-            let mut causes = record_causes(reading.ids.len(), &capture[start..]);
+            let sizes = records
+                .iter()
+                .map(|record| version.record_head() + record.packet.len());
+            let start = version.ids_start() + ID_SIZE * reading.ids.len() + sizes.sum::<usize>();
+            let mut causes = record_causes(version, reading.ids.len(), &capture[start..]);
             let before = if records.is_empty() {
                 "no record"
             } else {
@@ -158,8 +195,23 @@ fn causes(capture: &[u8], reading: &Reading, refusal: Refusal) -> Vec<String> {
             causes.push(format!("{before} before"));
             causes
         }
-        _ => cut,
     }
+}
+
+/// A board count or index, low byte first.
+fn number(bytes: &[u8]) -> u16 {
+    let high = bytes.get(1).copied().unwrap_or(0);
+    u16::from_le_bytes([bytes[0], high])
+}
+
+/// Why boards are refused that begin with these bytes; none if the count is cut short.
+fn board_causes(version: Version, bytes: &[u8]) -> Option<Vec<String>> {
+    let (count, ids) = bytes.split_at_checked(version.index_size())?;
+    let count = usize::from(number(count));
+    Some(match (1..=version.most_boards()).contains(&count) {
+        true => cut_short("IDs", ID_SIZE * count - ids.len()),
+        false => vec![boards_of(count)],
+    })
 }
 
 fn cut_short(part: &str, missing: usize) -> Vec<String> {
@@ -171,16 +223,12 @@ fn cut_short(part: &str, missing: usize) -> Vec<String> {
 }
 
 /// Why a record is refused that begins with these bytes.
-fn record_causes(boards: usize, bytes: &[u8]) -> Vec<String> {
-    let [index, direction, _, _, _, _, low, high, packet @ ..] = bytes else {
+fn record_causes(version: Version, boards: usize, bytes: &[u8]) -> Vec<String> {
+    let (index, rest) = bytes.split_at(version.index_size().min(bytes.len()));
+    let [direction, _, _, _, _, low, high, packet @ ..] = rest else {
         return vec![format!("cut after {} bytes of a record", bytes.len())];
     };
-    let mut causes = Vec::new();
-    if usize::from(*index) == boards {
-        causes.push("index at the board count".to_string());
-    } else if usize::from(*index) > boards {
-        causes.push(format!("index {index}"));
-    }
+    let mut causes: Vec<String> = index_causes(boards, number(index)).into_iter().collect();
     if *direction > capture::RESPONSE {
         causes.push(format!("direction {direction}"));
     }

@@ -2,30 +2,38 @@
 
 use std::collections::BTreeSet;
 
-use super::also;
+use super::{also, boards_of, index_causes, room_left, room_missing};
 use crate::capture::{self, Captured, Version};
 use crate::packet::{ID_SIZE, LONGEST};
 
-pub const WRITES: [&str; 30] = [
+pub const WRITES: [&str; 38] = [
     "written",
     "written: no record",
     "written: 1 board",
     "written: 16 boards",
+    "written: 17 boards",
+    "written: 255 boards",
+    "written: 256 boards",
+    "written: 257 boards",
+    "written: 999 boards",
+    "written: 1000 boards",
     "written: the buffer's whole length",
     "written: one byte of the buffer left",
     "written: more of the buffer left",
     "written: IDs in other parts",
     "written: more than 255 records",
+    "written: an index over 255",
     "written: a packet of 0 bytes",
     "written: a packet of 256 bytes",
     "refused 52: no board",
-    "refused 52: 17 boards",
+    "refused 52: 1001 boards",
     "refused 52: more boards",
     "refused 52: no multiple of 16",
     "refused 52: also 53",
     "refused 52: also 54",
     "refused 53: index at the board count",
     "refused 53: index 255",
+    "refused 53: index 65535",
     "refused 53: index over 255, low byte in range",
     "refused 53: direction 2",
     "refused 53: direction 255",
@@ -51,9 +59,7 @@ pub fn met(room: usize, ids: &[Vec<u8>], records: &[Captured], answer: &str) -> 
     let (head, causes) = match answer {
         "refused 52" => (answer, id_causes(&given, is_bad, size > room)),
         "refused 53" => (answer, bad_record_causes(bad, size > room)),
-        "refused 54" if room == 0 => (answer, vec!["no byte".to_string()]),
-        "refused 54" if size - room == 1 => (answer, vec!["one byte too short".to_string()]),
-        "refused 54" => (answer, vec!["more bytes too short".to_string()]),
+        "refused 54" => (answer, vec![room_missing(size - room, room)]),
         _ => ("written", written(room - size, ids, records)),
     };
     let causes = causes.iter().map(|cause| format!("{head}: {cause}"));
@@ -64,7 +70,7 @@ fn id_causes(given: &[u8], also_53: bool, also_54: bool) -> Vec<String> {
     let cause = match given.len() / ID_SIZE {
         _ if !given.len().is_multiple_of(ID_SIZE) => "no multiple of 16",
         0 => "no board",
-        17 => "17 boards",
+        1_001 => "1001 boards",
         _ => "more boards",
     };
     also([(also_53, "also 53"), (also_54, "also 54")])
@@ -86,15 +92,7 @@ fn bad_record_causes(bad: Vec<Vec<String>>, also_54: bool) -> Vec<String> {
 
 /// Why the writer refuses a record; none if it does not.
 fn written_causes(boards: usize, record: &Captured) -> Vec<String> {
-    let index = usize::from(record.index);
-    let mut causes = Vec::new();
-    if index == boards {
-        causes.push("index at the board count".to_string());
-    } else if index > 255 && index % 256 < boards {
-        causes.push("index over 255, low byte in range".to_string());
-    } else if index > boards {
-        causes.push(format!("index {index}"));
-    }
+    let mut causes: Vec<String> = index_causes(boards, record.index).into_iter().collect();
     if record.direction > capture::RESPONSE {
         causes.push(format!("direction {}", record.direction));
     }
@@ -107,17 +105,15 @@ fn written_causes(boards: usize, record: &Captured) -> Vec<String> {
 fn written(left: usize, ids: &[Vec<u8>], records: &[Captured]) -> Vec<String> {
     let of_length = |length: usize| records.iter().any(|record| record.packet.len() == length);
     let boards = ids.concat().len() / ID_SIZE;
-    let rest = match left {
-        0 => "the buffer's whole length",
-        1 => "one byte of the buffer left",
-        _ => "more of the buffer left",
-    };
     also([
-        (true, rest),
-        (boards == 1, "1 board"),
-        (boards == 16, "16 boards"),
+        (true, &room_left(left)[..]),
+        (true, &boards_of(boards)),
         (records.is_empty(), "no record"),
         (records.len() > 255, "more than 255 records"),
+        (
+            records.iter().any(|record| record.index > 255),
+            "an index over 255",
+        ),
         (
             ids.iter().any(|id| id.len() != ID_SIZE),
             "IDs in other parts",
