@@ -9,7 +9,7 @@ use std::path::Path;
 
 use board::{Board, CODE_WORD, ZERO_ID, packet};
 use reference::call::{self, Call};
-use reference::capture::{self, Captured, Reading};
+use reference::capture::{self, Captured, Reading, Version};
 use reference::edges;
 use reference::generate::{self, Subject};
 use reference::record::{CLIENT, Record, setup};
@@ -366,39 +366,93 @@ fn kept() -> Captured {
     }
 }
 
+/// A row of the table of versions.
+struct Form {
+    version: Version,
+    /// The version's bytes.
+    bytes: Vec<u8>,
+    /// The bytes of a board count or index.
+    width: usize,
+    boards: RangeInclusive<usize>,
+}
+
+impl Form {
+    /// A number of boards, or an index.
+    fn number(&self, value: usize) -> Vec<u8> {
+        (value as u32).to_le_bytes()[..self.width].to_vec()
+    }
+
+    /// The smaller numbers of that width, and some of the greater ones.
+    fn numbers(&self) -> impl Iterator<Item = usize> {
+        let count = 1 << (8 * self.width);
+        let numbers = (0..1_100).chain([32_768, 65_280, 65_535]);
+        numbers.filter(move |number| *number < count)
+    }
+}
+
+fn listed_versions() -> Vec<Form> {
+    let rows = table("Captures", "Version").into_iter();
+    rows.map(|cells| {
+        let version = Version::ALL.into_iter();
+        let mut version = version.filter(|version| version.number().to_string() == cells[0]);
+        Form {
+            version: version.next().expect("a version"),
+            bytes: bytes(quoted(&cells[1])),
+            width: cells[2].parse().expect("a number of bytes"),
+            boards: plain_range(&cells[3]),
+        }
+    })
+    .collect()
+}
+
+/// `low to high`.
+fn plain_range(text: &str) -> RangeInclusive<usize> {
+    let (low, high) = text.split_once(" to ").expect("a range");
+    let number = |digits: &str| digits.replace(',', "").parse().expect("a number");
+    number(low)..=number(high)
+}
+
+#[test]
+fn the_versions_are_those_that_are_read() {
+    let listed: Vec<Version> = listed_versions().iter().map(|form| form.version).collect();
+    assert_eq!(listed, Version::ALL);
+}
+
 #[test]
 fn captures_have_the_parts() {
     let ids = [ID, [0x41; 16]].concat();
-    let mut buffer = [0; 100];
-    let size = capture::write(&mut buffer, &ids, &[kept()]).expect("a capture");
     let head = table("Captures", "Place");
     let record = table("Captures", "Place in a record");
-    let parts: [&[u8]; 9] = [
-        &bytes(quoted(&head[0][3])),
-        &bytes(quoted(&head[1][3])),
-        &[2],
-        &ids,
-        &[1],
-        &[1],
-        &[4, 3, 2, 1],
-        &[3, 0],
-        &[0xFD, 9, 7],
-    ];
-    let size_of = |cell: &str| match cell {
-        "16 b" => 16 * 2,
-        "n" => 3,
-        number => number.parse().expect("a number of bytes"),
-    };
-    let start = head.iter().map(|cells| size_of(&cells[1])).sum::<usize>();
-    let starts = head.iter().map(|_| 0).chain(record.iter().map(|_| start));
-    let mut end = 0;
-    for ((cells, start), part) in head.iter().chain(&record).zip(starts).zip(parts) {
-        let place = start + cells[0].parse::<usize>().expect("a place");
-        assert_eq!((place, size_of(&cells[1])), (end, part.len()), "{cells:?}");
-        end += part.len();
-        assert_eq!(&buffer[place..end], part, "{cells:?}");
+    for form in listed_versions() {
+        let capture = capture::compose(form.version, &ids, &[kept()]);
+        let parts: [&[u8]; 9] = [
+            &bytes(quoted(&head[0][3])),
+            &form.bytes,
+            &form.number(2),
+            &ids,
+            &form.number(1),
+            &[1],
+            &[4, 3, 2, 1],
+            &[3, 0],
+            &[0xFD, 9, 7],
+        ];
+        let size_of = |cell: &str| match cell {
+            "16 b" => 16 * 2,
+            "n" => 3,
+            "w" => form.width,
+            number => number.parse().expect("a number of bytes"),
+        };
+        let start = head.iter().map(|cells| size_of(&cells[1])).sum::<usize>();
+        let starts = head.iter().map(|_| 0).chain(record.iter().map(|_| start));
+        let mut end = 0;
+        for ((cells, start), part) in head.iter().chain(&record).zip(starts).zip(parts) {
+            let place = start + cells[0].split(" + ").map(size_of).sum::<usize>();
+            assert_eq!((place, size_of(&cells[1])), (end, part.len()), "{cells:?}");
+            end += part.len();
+            assert_eq!(&capture[place..end], part, "{cells:?}");
+        }
+        assert_eq!(end, capture.len());
     }
-    assert_eq!(end, size);
 }
 
 /// What stands between the first two backquotes of a cell.
@@ -406,9 +460,9 @@ fn quoted(cell: &str) -> &str {
     cell.split('`').nth(1).expect("quoted bytes")
 }
 
-/// The range of a part of a capture of three boards, `low to high` in its cell.
-fn part_range(title: &str, part: &str) -> RangeInclusive<usize> {
-    let rows = table("Captures", title);
+/// The range of a part of a record of three boards, `low to high` in its cell.
+fn part_range(part: &str) -> RangeInclusive<usize> {
+    let rows = table("Captures", "Place in a record");
     let row = rows.iter().find(|cells| cells[2] == part);
     let content = row.expect("the part")[3].replace("b - 1", "2");
     let (low, high) = content.split_once(" to ").expect("a range");
@@ -417,69 +471,80 @@ fn part_range(title: &str, part: &str) -> RangeInclusive<usize> {
     low.parse().expect("a number")..=high.parse().expect("a number")
 }
 
+/// Whether a capture of so many boards is accepted, with these bytes behind its head.
+fn is_accepted(form: &Form, boards: usize, rest: &[u8]) -> bool {
+    let (count, ids) = (form.number(boards), vec![0; 16 * boards]);
+    let head = [b"VLG", &form.bytes[..], &count, &ids].concat();
+    capture::read(&[&head, rest].concat()).refusal.is_none()
+}
+
 #[test]
-fn captures_have_the_ranges() {
-    let read = |count: usize, rest: &[u8]| {
-        let head = [&b"VLG\x01\x00"[..], &[count as u8], &vec![0; 16 * count]].concat();
-        capture::read(&[&head, rest].concat())
-    };
-    let boards = part_range("Place", "board count");
-    for count in 0..=255 {
-        let accepted = read(count, &[]).refusal.is_none();
-        assert_eq!(accepted, boards.contains(&count), "{count}");
-    }
-    let [index, direction, length] =
-        ["index", "direction", "length"].map(|part| part_range("Place in a record", part));
-    for value in 0..=255 {
-        let accepted = |record: &[u8]| read(3, record).refusal.is_none();
-        let byte = value as u8;
-        assert_eq!(
-            accepted(&[byte, 0, 0, 0, 0, 0, 0, 0]),
-            index.contains(&value)
-        );
-        let is_direction = direction.contains(&value);
-        assert_eq!(accepted(&[0, byte, 0, 0, 0, 0, 0, 0]), is_direction);
-        for place in 2..6 {
-            let mut record = [0; 8];
-            record[place] = byte;
-            assert!(accepted(&record));
+fn captures_have_the_board_counts() {
+    for form in listed_versions() {
+        for boards in form.numbers() {
+            let listed = form.boards.contains(&boards);
+            assert_eq!(is_accepted(&form, boards, &[]), listed, "{boards}");
         }
     }
-    for value in (0..=1_100).chain([32_768, 65_535]) {
-        let [low, high] = (value as u16).to_le_bytes();
-        let record = [&[0, 0, 0, 0, 0, 0, low, high][..], &vec![0; value]].concat();
-        let accepted = read(3, &record).refusal.is_none();
-        assert_eq!(accepted, length.contains(&value), "{value}");
+}
+
+#[test]
+fn captures_have_the_ranges() {
+    let [index, direction, length] = ["index", "direction", "length"].map(part_range);
+    for form in listed_versions() {
+        let accepted = |index: usize, fields: &[u8], packet: usize| {
+            let record = [&form.number(index), fields, &vec![0; packet]].concat();
+            is_accepted(&form, 3, &record)
+        };
+        for value in form.numbers() {
+            let is_index = index.contains(&value);
+            assert_eq!(accepted(value, &[0; 7], 0), is_index, "{value}");
+        }
+        for value in 0..=255 {
+            let mut fields = [value as u8, 0, 0, 0, 0, 0, 0];
+            assert_eq!(accepted(0, &fields, 0), direction.contains(&value));
+            for place in 1..5 {
+                fields = [0; 7];
+                fields[place] = value as u8;
+                assert!(accepted(0, &fields, 0));
+            }
+        }
+        for value in (0..=1_100).chain([32_768, 65_535]) {
+            let [low, high] = (value as u16).to_le_bytes();
+            let is_length = accepted(0, &[0, 0, 0, 0, 0, low, high], value);
+            assert_eq!(is_length, length.contains(&value), "{value}");
+        }
     }
 }
 
 #[test]
 fn a_refused_reading_gives_what_is_said() {
-    let whole = capture::compose(&[ID, ID].concat(), &[kept(), kept()]);
-    for cells in table("Reading a capture", "No.") {
-        let number: u8 = cells[0].parse().expect("a number");
-        // The mark, the version, the board count and the index of the second record.
-        let place = [0, 3, 5, whole.len() - 11][usize::from(number - 50)];
-        let mut damaged = whole.clone();
-        damaged[place] = 0xFF;
-        let cut = &whole[..place + usize::from(number == 53)];
-        let mut expected = Reading::default();
-        for part in cells[2].split([',', ' ']) {
-            match part {
-                "version" => expected.version = 1,
-                "IDs" => expected.ids = vec![ID; 2],
-                "records" => expected.records = vec![kept()],
-                _ => {}
+    for form in listed_versions() {
+        let whole = capture::compose(form.version, &[ID, ID].concat(), &[kept(), kept()]);
+        for cells in table("Reading a capture", "No.") {
+            let number: u8 = cells[0].parse().expect("a number");
+            // The mark, the version, the board count and the index of the second record.
+            let second = whole.len() - form.width - 7 - kept().packet.len();
+            let place = [0, 3, 5, second][usize::from(number - 50)];
+            let mut damaged = whole.clone();
+            damaged[place] = 0xFF;
+            let cut = &whole[..place + usize::from(number == 53)];
+            let mut expected = Reading::default();
+            for part in cells[2].split([',', ' ']) {
+                match part {
+                    "version" => expected.version = Some(form.version),
+                    "IDs" => expected.ids = vec![ID; 2],
+                    "records" => expected.records = vec![kept()],
+                    _ => {}
+                }
             }
-        }
-        for capture in [&damaged, cut] {
-            let reading = capture::read(capture);
-            expected.refusal = reading.refusal;
-            assert_eq!(reading, expected, "{cells:?}");
-            assert_eq!(
-                reading.refusal.map(|refusal| refusal.number()),
-                Some(number)
-            );
+            for capture in [&damaged, cut] {
+                let reading = capture::read(capture);
+                expected.refusal = reading.refusal;
+                assert_eq!(reading, expected, "{cells:?}");
+                let refusal = reading.refusal.map(|refusal| refusal.number());
+                assert_eq!(refusal, Some(number));
+            }
         }
     }
 }
@@ -544,10 +609,11 @@ fn the_capture_is_read_and_summed_up_so() {
     let [request, response] = [0, 1].map(|place: usize| packets[place].replace(' ', ""));
     let mut session = Session::new();
     let mut call = |line: String| session.line(line.as_bytes()).expect("an answer");
-    let read = format!(
-        "version 1 id:{ZERO_ID} rec:0.0.1000.{request} rec:0.1.1003.{response} rec:0.0.2000.FD"
-    );
+    let records = format!("0.0.1000.{request} rec:0.1.1003.{response} rec:0.0.2000.FD");
+    let read = format!("version 2 id:{ZERO_ID} rec:{records}");
     assert_eq!(call(format!("capread {capture}")), read);
+    let write = format!("capwrite 1000 {ZERO_ID} {}", records.replace("rec:", ""));
+    assert_eq!(call(write), format!("capture {capture}"));
     let texts = blocks("The summary of a capture");
     assert_eq!(call(format!("summary {capture}")), texts[0].join("|"));
     let cut = &capture[..capture.len() - 2];
@@ -556,7 +622,7 @@ fn the_capture_is_read_and_summed_up_so() {
 }
 
 /// Each call of a list with the section of the page that has its refusals.
-const SECTIONS: [(&str, &str); 9] = [
+const SECTIONS: [(&str, &str); 10] = [
     ("setup", "Setting up a board"),
     ("packet", "A packet"),
     ("measure", "A measurement"),
@@ -566,6 +632,7 @@ const SECTIONS: [(&str, &str); 9] = [
     ("capread", "Reading a capture"),
     ("capwrite", "Writing a capture"),
     ("summary", "The summary of a capture"),
+    ("rewrite", "Rewriting a capture"),
 ];
 
 /// A call list cannot describe what 41 refuses.
