@@ -5,7 +5,13 @@ The same job as the proved program `summary`, for the benchmark alone; nothing e
 """
 import sys
 from collections import Counter
-from struct import unpack_from
+from struct import Struct
+
+# Of each version, by its bytes, the most boards and the fields of head and record.
+VERSIONS = {
+    b"\x01\x00": (16, Struct("<B"), Struct("<BBIH")),
+    b"\x02\x00": (1000, Struct("<H"), Struct("<HBIH")),
+}
 
 
 def request_is_well_formed(block, function):
@@ -85,17 +91,20 @@ def summarize(capture):
     counts = Counter()
     if capture[:3] != b"VLG":
         return counts, 50
-    if capture[3:5] != b"\x01\x00":
+    version = VERSIONS.get(capture[3:5])
+    if version is None:
         return counts, 51
-    boards = capture[5] if len(capture) > 5 else 0
-    at, end = 6 + 16 * boards, len(capture)
-    if not 1 <= boards <= 16 or end < at:
+    most, count, fields = version
+    end = len(capture)
+    boards = count.unpack_from(capture, 5)[0] if 5 + count.size <= end else 0
+    at = 5 + count.size + 16 * boards
+    if not 1 <= boards <= most or end < at:
         return counts, 52
     while at < end:
-        if end - at < 8:
+        if end - at < fields.size:
             return counts, 53
-        index, direction, _, size = unpack_from("<BBIH", capture, at)
-        at += 8
+        index, direction, _, size = fields.unpack_from(capture, at)
+        at += fields.size
         if index >= boards or direction > 1 or size > 256 or end - at < size:
             return counts, 53
         counts[index, judge(direction, capture[at : at + size])] += 1
