@@ -5,6 +5,7 @@ use std::path::PathBuf;
 use std::time::Duration;
 
 use crate::boards::{self, Unit};
+use crate::capture::Source;
 use crate::ffi::{Command, DEFAULT_ID, LOWER, RAISE};
 use crate::format::Format;
 use crate::help;
@@ -13,7 +14,6 @@ use crate::questions;
 use crate::request::{Kind, Raw, Request};
 use crate::rows;
 use crate::server::Settings;
-use crate::summary::Source;
 use crate::target;
 use crate::values;
 

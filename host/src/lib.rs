@@ -5,6 +5,7 @@ pub mod answer;
 pub mod arguments;
 pub mod boards;
 pub mod calendar;
+pub mod capture;
 pub mod client;
 pub mod command_line;
 pub mod datagram;

@@ -32,8 +32,8 @@ impl Refusal {
             }
             43 => "request would exceed 256 bytes",
             50 => "does not begin with VLG",
-            51 => "version is not 1, or is cut short",
-            52 => "not 1 to 16 boards with an ID of 16 bytes each",
+            51 => "version is neither 1 nor 2, or is cut short",
+            52 => "not 1 to 16 boards in version 1 or 1 to 1,000 in version 2, with an ID of 16 bytes each",
             53 => "a record is cut short, or its index, direction or length is outside its range",
             54 => "buffer shorter than the capture",
             70 => "the record is not one that a board can have",

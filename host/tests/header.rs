@@ -7,7 +7,8 @@ use std::process::{Command, Stdio};
 use udgornwy::ffi::Board;
 
 /// Writes the last entry of the schedule, finds the request's ID, and looks for the entry where the header has it. Then keeps the request, and
-/// what is left of it without its last byte, in a capture of two boards: written at once and in turn, taken apart, and counted through a window.
+/// what is left of it without its last byte, in a capture of two boards: written at once and in turn, rewritten, taken apart, and counted through
+/// a window. A capture of version 1 is rewritten too: a board with a zero ID and an empty request.
 const PROGRAM: &str = r#"
 #include <stdio.h>
 #include <string.h>
@@ -19,6 +20,7 @@ enum { IDS = 2 * UDGORNWY_ID, COUNTS = 2 * UDGORNWY_NUMBERS, ROOM = UDGORNWY_LON
 static const uint16_t indexes[] = {0, 1};
 static const uint8_t ids[IDS] = {1, 2}, directions[] = {UDGORNWY_REQUEST, UDGORNWY_RESPONSE};
 static const uint32_t counters[] = {1000, 4000000000};
+static const uint8_t version_1[6 + UDGORNWY_ID + 8] = {'V', 'L', 'G', 1, 0, 1};
 
 static size_t written_in_turn(uint8_t *capture, const uint8_t *packet, const uint16_t *lengths)
 {
@@ -28,11 +30,11 @@ static size_t written_in_turn(uint8_t *capture, const uint8_t *packet, const uin
     return end;
 }
 
-static void take_apart(const uint8_t *end, size_t left, uint16_t boards)
+static void take_apart(const uint8_t *end, size_t left, uint16_t version, uint16_t boards)
 {
     udgornwy_capture_record record;
     do {
-        record = udgornwy_next_record(end - left, left, boards);
+        record = udgornwy_next_record(end - left, left, version, boards);
         printf("%u: %u %u %lu %u %u\n", record.kind, record.direction, record.index, (unsigned long)record.counter,
                (unsigned)record.packet, (unsigned)record.rest);
         left = record.rest;
@@ -42,14 +44,26 @@ static void take_apart(const uint8_t *end, size_t left, uint16_t boards)
 /* The last byte is counted in a second turn. */
 static void count(uint8_t *window, size_t records, size_t end)
 {
+    static uint8_t text[UDGORNWY_LONGEST_SUMMARY];
     uint64_t counts[COUNTS] = {0};
-    uint8_t text[UDGORNWY_LONGEST_SUMMARY], last = window[end - 1];
-    udgornwy_reply first = udgornwy_count_window(counts, COUNTS, window, ROOM, records, end - 1, 2);
+    uint8_t last = window[end - 1];
+    udgornwy_reply first = udgornwy_count_window(counts, COUNTS, window, ROOM, records, end - 1, 2, 2);
     window[first.length] = last;
-    udgornwy_reply second = udgornwy_count_window(counts, COUNTS, window, ROOM, 0, first.length + 1, 2);
+    udgornwy_reply second = udgornwy_count_window(counts, COUNTS, window, ROOM, 0, first.length + 1, 2, 2);
     udgornwy_reply shown = udgornwy_show_counts(text, sizeof text, counts, COUNTS, 53);
     printf("%u %u, %u %u, %u: %.*s", first.refusal, (unsigned)first.length, second.refusal, (unsigned)second.length, shown.refusal,
            (int)shown.length, (const char *)text);
+}
+
+/* Whole, and without its last byte. */
+static void rewrite(const uint8_t *capture, size_t size)
+{
+    uint8_t buffer[ROOM];
+    udgornwy_reply cut = udgornwy_rewrite_capture(buffer, ROOM, capture, size - 1);
+    udgornwy_reply whole = udgornwy_rewrite_capture(buffer, ROOM, capture, size);
+    udgornwy_opened opened = udgornwy_open_capture(buffer, whole.length);
+    printf("%u %u, %u %u, %u %u: %d\n", cut.refusal, (unsigned)cut.length, whole.refusal, (unsigned)whole.length,
+           opened.version, opened.boards, size == whole.length && memcmp(capture, buffer, size) == 0);
 }
 
 static void captures(const uint8_t *packet, size_t size)
@@ -64,8 +78,12 @@ static void captures(const uint8_t *packet, size_t size)
     udgornwy_opened opened = udgornwy_open_capture(whole, written.length);
     udgornwy_opened cut = udgornwy_open_capture(whole, opened.records - 1);
     printf("%u %u: %d\n", written.refusal, (unsigned)end, end == written.length && memcmp(whole, parts, end) == 0);
-    printf("%u: %u %u %u, %u: %u\n", opened.refusal, opened.boards, (unsigned)opened.ids, (unsigned)opened.records, cut.refusal, cut.boards);
-    take_apart(whole + end, end - opened.records, opened.boards);
+    printf("%u: %u %u %u %u, %u: %u %u\n", opened.refusal, opened.version, opened.boards, (unsigned)opened.ids,
+           (unsigned)opened.records, cut.refusal, cut.version, cut.boards);
+    rewrite(whole, end);
+    rewrite(version_1, sizeof version_1);
+    take_apart(whole + end, end - opened.records, opened.version, opened.boards);
+    take_apart(whole + end, end - opened.records, 3, opened.boards);
     count(whole, opened.records, end);
 }
 
@@ -90,14 +108,17 @@ int main(void)
 }
 "#;
 
-/// The capture: its length, its head, its records, and its summary.
+/// The capture: its length, its head, what it and the one of version 1 are rewritten as, its records, none in another version, and its summary.
 const CAPTURES: &str = "\
-0 121: 1
-0: 2 6 38, 52: 0
-0: 0 0 1000 75 41
+0 124: 1
+0: 2 2 7 39, 52: 0 0
+53 82, 0 124, 2 2: 1
+53 23, 0 32, 2 1: 0
+0: 0 0 1000 76 42
 0: 1 1 4000000000 33 0
 1: 0 0 0 0 0
-0 40, 0 0, 0: 0,0,1
+4: 0 0 0 0 0
+0 41, 0 0, 0: 0,0,1
 1,4,1
 refused,53
 ";

@@ -3,22 +3,42 @@
 use super::{accepted, length_of, written, Reply, ID_SIZE, LONGEST_PACKET};
 use crate::refusal::Refusal;
 
-/// Of a capture.
-const MOST_BOARDS: usize = 16;
+/// Of a capture of version 2, and so of any.
+const MOST_BOARDS: usize = 1000;
 /// The numbers that a packet is judged with, 0 to 10, have so many counts for each board.
 const NUMBERS: usize = 11;
 pub const COUNTS: usize = MOST_BOARDS * NUMBERS;
 
 /// Mark, version, board count and the IDs of all boards.
-pub const LONGEST_HEAD: usize = 6 + MOST_BOARDS * ID_SIZE;
+pub const LONGEST_HEAD: usize = 7 + MOST_BOARDS * ID_SIZE;
 /// Index, direction, counter, length and the packet.
-pub const LONGEST_RECORD: usize = 8 + LONGEST_PACKET;
+pub const LONGEST_RECORD: usize = 9 + LONGEST_PACKET;
 /// A line for each count, and that of a refusal.
-const LONGEST_SUMMARY: usize = COUNTS * 27 + 11;
+const LONGEST_SUMMARY: usize = COUNTS * 28 + 11;
 
-/// The head of a capture: how many boards it has, and where the IDs and the records stand.
+/// Of the capture form. Both are read, `Two` is written.
+#[derive(Clone, Copy, Debug, PartialEq, Eq)]
+pub enum Version {
+    One,
+    Two,
+}
+
+impl Version {
+    pub fn number(self) -> u16 {
+        match self {
+            Version::One => 1,
+            Version::Two => 2,
+        }
+    }
+}
+
+/// A record is cut short, or a field of it is outside its range.
+pub const BAD_RECORD: Refusal = Refusal(53);
+
+/// The head of a capture: its version, how many boards it has, and where the IDs and the records stand.
 #[derive(Clone, Copy, Debug, PartialEq, Eq)]
 pub struct Head {
+    pub version: Version,
     pub boards: u16,
     pub ids: usize,
     pub records: usize,
@@ -44,9 +64,19 @@ pub enum Next<'a> {
     Wrong,
 }
 
+/// What a capture was rewritten as.
+#[derive(Clone, Copy, Debug, PartialEq, Eq)]
+pub struct Rewritten {
+    pub length: usize,
+    /// 53: the record that it refuses is not there, nor is anything behind it.
+    pub refusal: Option<Refusal>,
+}
+
 #[repr(C)]
 struct OpenedCapture {
     refusal: u16,
+    /// 1 or 2.
+    version: u16,
     boards: u16,
     ids: usize,
     records: usize,
@@ -66,7 +96,12 @@ struct CaptureRecord {
 
 extern "C" {
     fn udgornwy_open_capture(capture: *const u8, capture_length: usize) -> OpenedCapture;
-    fn udgornwy_next_record(rest: *const u8, rest_length: usize, boards: u16) -> CaptureRecord;
+    fn udgornwy_next_record(
+        rest: *const u8,
+        rest_length: usize,
+        version: u16,
+        boards: u16,
+    ) -> CaptureRecord;
     fn udgornwy_write_head(
         buffer: *mut u8,
         buffer_length: usize,
@@ -99,6 +134,12 @@ extern "C" {
         packets: *const u8,
         packets_length: usize,
     ) -> Reply;
+    fn udgornwy_rewrite_capture(
+        buffer: *mut u8,
+        buffer_length: usize,
+        capture: *const u8,
+        capture_length: usize,
+    ) -> Reply;
     fn udgornwy_count_window(
         counts: *mut u64,
         counts_count: usize,
@@ -106,6 +147,7 @@ extern "C" {
         window_length: usize,
         start: usize,
         end: usize,
+        version: u16,
         boards: u16,
     ) -> Reply;
     fn udgornwy_show_counts(
@@ -122,16 +164,21 @@ pub fn open_capture(capture: &[u8]) -> Result<Head, Refusal> {
     // SAFETY: the slice is live.
     let opened = unsafe { udgornwy_open_capture(capture.as_ptr(), capture.len()) };
     accepted(opened.refusal).map(|()| Head {
+        version: match opened.version {
+            1 => Version::One,
+            _ => Version::Two,
+        },
         boards: opened.boards,
         ids: opened.ids,
         records: opened.records,
     })
 }
 
-/// The first record of what is left of a capture of so many boards.
-pub fn next_record(rest: &[u8], boards: u16) -> Next<'_> {
+/// The first record of what is left of a capture with this head.
+pub fn next_record(rest: &[u8], head: Head) -> Next<'_> {
+    let version = head.version.number();
     // SAFETY: the slice is live.
-    let next = unsafe { udgornwy_next_record(rest.as_ptr(), rest.len(), boards) };
+    let next = unsafe { udgornwy_next_record(rest.as_ptr(), rest.len(), version, head.boards) };
     match next.kind {
         0 => {
             let (before, after) = rest.split_at(rest.len() - next.rest);
@@ -204,14 +251,35 @@ pub fn write_capture(buffer: &mut [u8], ids: &[u8], records: &[Record]) -> Resul
     length(&reply)
 }
 
-/// Counts the records that stand in a window from `start` to `end`, moves the bytes that are left to its start, and says how many
-/// they are: the start of a record. Refusal 53: a field outside its range; what stands before it is counted.
+/// Rewrites a whole capture in version 2. Any refusal but 53 leaves the buffer as it was.
+pub fn rewrite_capture(buffer: &mut [u8], capture: &[u8]) -> Result<Rewritten, Refusal> {
+    // SAFETY: both slices are live and do not overlap.
+    let reply = unsafe {
+        udgornwy_rewrite_capture(
+            buffer.as_mut_ptr(),
+            buffer.len(),
+            capture.as_ptr(),
+            capture.len(),
+        )
+    };
+    let refusal = match accepted(reply.refusal) {
+        Err(refusal) if refusal != BAD_RECORD => return Err(refusal),
+        rewritten => rewritten.err(),
+    };
+    Ok(Rewritten {
+        length: reply.length,
+        refusal,
+    })
+}
+
+/// Counts the records of a capture with this head that stand in a window from `start` to `end`, moves the bytes that are left to its
+/// start, and says how many they are: the start of a record. Refusal 53: a field outside its range; what stands before it is counted.
 pub fn count_window(
     counts: &mut [u64],
     window: &mut [u8],
     start: usize,
     end: usize,
-    boards: u16,
+    head: Head,
 ) -> Result<usize, Refusal> {
     // SAFETY: both slices are live and do not overlap.
     let reply = unsafe {
@@ -222,7 +290,8 @@ pub fn count_window(
             window.len(),
             start,
             end,
-            boards,
+            head.version.number(),
+            head.boards,
         )
     };
     length(&reply)
@@ -232,7 +301,7 @@ pub fn count_window(
 pub fn show_counts(counts: &[u64], refusal: Option<Refusal>) -> Result<Vec<u8>, Refusal> {
     // No refusal of a capture has a number above 255.
     let number = refusal.map_or(0, |refusal| u8::try_from(refusal.0).unwrap_or(u8::MAX));
-    let mut text = [0; LONGEST_SUMMARY];
+    let mut text = vec![0; LONGEST_SUMMARY];
     // SAFETY: both slices are live and do not overlap.
     let reply = unsafe {
         udgornwy_show_counts(
@@ -260,9 +329,9 @@ mod tests {
 
     #[test]
     fn the_text_of_the_greatest_counts_fits() {
-        let text = show_counts(&[u64::MAX; COUNTS], Some(Refusal(53)));
+        let text = show_counts(&vec![u64::MAX; COUNTS], Some(BAD_RECORD));
         let text = String::from_utf8(text.expect("a text that fits")).expect("text");
         assert_eq!(text.lines().count(), COUNTS + 1);
-        assert!(text.ends_with(&format!("15,10,{}\nrefused,53\n", u64::MAX)));
+        assert!(text.ends_with(&format!("999,10,{}\nrefused,53\n", u64::MAX)));
     }
 }

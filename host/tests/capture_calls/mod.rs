@@ -2,7 +2,7 @@
 
 use crate::{bytes, refused};
 use std::io::{self, Read};
-use udgornwy::ffi::captures::{self, Head, Next, Record, COUNTS};
+use udgornwy::ffi::captures::{self, Head, Next, Record, BAD_RECORD, COUNTS};
 use udgornwy::ffi::ID_SIZE;
 use udgornwy::hex::digits;
 use udgornwy::refusal::Refusal;
@@ -15,20 +15,24 @@ pub fn read(capture: &[u8]) -> String {
     let head = match captures::open_capture(capture) {
         Ok(head) => head,
         Err(refusal) => {
-            let version = u8::from(refusal == Refusal(52));
+            let version = match refusal {
+                Refusal(52) => capture[3],
+                _ => 0,
+            };
             return format!("version {version} {}", refused(&refusal));
         }
     };
     let ids = capture[head.ids..head.records].chunks(ID_SIZE);
     let ids: String = ids.map(|id| format!(" id:{}", digits(id))).collect();
-    format!("version 1{ids}{}", read_records(capture, head))
+    let version = head.version.number();
+    format!("version {version}{ids}{}", read_records(capture, head))
 }
 
 fn read_records(capture: &[u8], head: Head) -> String {
     let mut answer = String::new();
     let mut rest = &capture[head.records..];
     loop {
-        match captures::next_record(rest, head.boards) {
+        match captures::next_record(rest, head) {
             Next::Record(record, after) => {
                 answer += &format!(" rec:{}", show(record));
                 rest = after;
@@ -72,12 +76,15 @@ pub fn write(room: &str, ids: &str, records: &[&str]) -> String {
         }
         Err(refusal) => refused(&refusal),
     };
-    let mut rest = buffer[answer.unwrap_or(0)..].iter();
-    let dirty = match rest.all(|byte| *byte == FILLER) {
+    text + dirty(&buffer[answer.unwrap_or(0)..])
+}
+
+/// Of the bytes that a call leaves as they were.
+fn dirty(rest: &[u8]) -> &'static str {
+    match rest.iter().all(|byte| *byte == FILLER) {
         true => "",
         false => " dirty",
-    };
-    text + dirty
+    }
 }
 
 fn write_parts(room: usize, ids: &[u8], records: &[Record]) -> Vec<u8> {
@@ -112,12 +119,8 @@ fn record<'a>(field: &str, packet: &'a [u8]) -> Record<'a> {
 /// Counted at once; in pieces, through the narrowest window and a wider one, the text is the same.
 pub fn summarize(capture: &[u8]) -> String {
     let whole = count_whole(capture);
-    for window in [0, 1000] {
-        let pieces = Pieces {
-            rest: capture,
-            size: 1,
-        };
-        let counted = summary::count(pieces, window).expect("no failed read");
+    for window in [0, 20_000] {
+        let counted = summary::count(Pieces::of(capture), window).expect("no failed read");
         assert_eq!(counted.text().expect("a text that fits"), whole);
     }
     let text = String::from_utf8(whole).expect("text");
@@ -134,13 +137,13 @@ fn count_whole(capture: &[u8]) -> Vec<u8> {
         Ok(head) => head,
         Err(refusal) => return show(&[], Some(refusal)),
     };
-    let (mut counts, mut window) = ([0; COUNTS], capture.to_vec());
+    let (mut counts, mut window) = (vec![0; COUNTS], capture.to_vec());
     let end = window.len();
-    match captures::count_window(&mut counts, &mut window, head.records, end, head.boards) {
+    match captures::count_window(&mut counts, &mut window, head.records, end, head) {
         Ok(0) => show(&counts, None),
         Ok(left) => {
             assert_eq!(window[..left], capture[end - left..]);
-            show(&counts, Some(Refusal(53)))
+            show(&counts, Some(BAD_RECORD))
         }
         Err(refusal) => show(&counts, Some(refusal)),
     }
@@ -150,6 +153,15 @@ fn count_whole(capture: &[u8]) -> Vec<u8> {
 struct Pieces<'a> {
     rest: &'a [u8],
     size: usize,
+}
+
+impl Pieces<'_> {
+    fn of(bytes: &[u8]) -> Pieces<'_> {
+        Pieces {
+            rest: bytes,
+            size: 1,
+        }
+    }
 }
 
 impl Read for Pieces<'_> {

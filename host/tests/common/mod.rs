@@ -2,12 +2,14 @@
 
 #![allow(dead_code)]
 
+pub mod captures;
+
 use std::io::{BufRead, BufReader, Read};
 use std::net::{SocketAddr, UdpSocket};
 use std::path::{Path, PathBuf};
 use std::process::{Child, Command, ExitStatus, Output, Stdio};
 use std::sync::mpsc::{self, Receiver};
-use std::thread::{self, sleep};
+use std::thread::{self, sleep, JoinHandle};
 use std::time::{Duration, Instant};
 
 /// A response on the loopback address takes far less, also on a busy machine.
@@ -77,9 +79,7 @@ impl Board {
     }
 
     pub fn signal(&mut self, number: i32) -> ExitStatus {
-        let process = i32::try_from(self.process.id()).expect("a process number");
-        // SAFETY: this process was started here and has not been waited for.
-        unsafe { kill(process, number) };
+        signal(&mut self.process, number);
         wait(&mut self.process)
     }
 }
@@ -101,6 +101,13 @@ pub fn read_lines(stream: impl Read + Send + 'static) -> Receiver<String> {
         }
     });
     receiver
+}
+
+/// Sends a signal to a process that has not been waited for.
+pub fn signal(process: &mut Child, number: i32) {
+    let process = i32::try_from(process.id()).expect("a process number");
+    // SAFETY: this process was started here, and nobody else waits for it.
+    unsafe { kill(process, number) };
 }
 
 pub fn wait(process: &mut Child) -> ExitStatus {
@@ -126,9 +133,26 @@ pub fn start(arguments: &[&str]) -> Child {
 
 /// Runs the program to its end.
 pub fn run(arguments: &[&str]) -> Output {
-    let mut process = start(arguments);
-    wait(&mut process);
-    process.wait_with_output().expect("the program's output")
+    end(start(arguments))
+}
+
+/// What a process writes to its end. It is read meanwhile: a pipe has room for little.
+pub fn end(mut process: Child) -> Output {
+    let stdout = read_whole(process.stdout.take().expect("a piped stream"));
+    let stderr = read_whole(process.stderr.take().expect("a piped stream"));
+    Output {
+        status: wait(&mut process),
+        stdout: stdout.join().expect("standard output"),
+        stderr: stderr.join().expect("standard error"),
+    }
+}
+
+fn read_whole(mut stream: impl Read + Send + 'static) -> JoinHandle<Vec<u8>> {
+    thread::spawn(move || {
+        let mut bytes = Vec::new();
+        stream.read_to_end(&mut bytes).expect("what is written");
+        bytes
+    })
 }
 
 /// Runs a command of the client with this ID and password.
@@ -173,6 +197,17 @@ pub fn stored(name: &str) -> PathBuf {
 
 pub fn document(name: &str) -> String {
     std::fs::read_to_string(stored(name)).expect("a document")
+}
+
+/// The indented lines that follow a sentence in a document.
+pub fn shown_after(name: &str, sentence: &str) -> String {
+    let document = document(name);
+    let (_, after) = document.split_once(sentence).expect("the sentence");
+    let lines = after
+        .lines()
+        .skip_while(|line| !line.starts_with("    "))
+        .map_while(|line| line.strip_prefix("    "));
+    lines.map(|line| format!("{line}\n")).collect()
 }
 
 /// Where a test keeps a file; what an earlier run left there is gone.
