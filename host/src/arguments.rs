@@ -23,6 +23,8 @@ pub enum Task {
     Print(String),
     Board(Settings),
     Summary(Source),
+    /// A capture, and where its new file goes.
+    Rewrite(Source, PathBuf),
     Request(Request),
 }
 
@@ -51,7 +53,8 @@ const SEARCH: Form = Form {
     flags: &["-d"],
 };
 
-const SUMMARY: Form = Form {
+/// Of summary and rewrite.
+const CAPTURE: Form = Form {
     valued: &[],
     flags: &[],
 };
@@ -92,6 +95,7 @@ pub fn parse(arguments: &[String]) -> Result<Task, String> {
         "schedule" => parse_schedule(rest),
         "search" => parse_search(rest),
         "summary" => parse_summary(rest),
+        "rewrite" => parse_rewrite(rest),
         _ => Err(format!("there is no command `{command}`")),
     }
 }
@@ -166,12 +170,29 @@ fn parse_search(arguments: &[String]) -> Result<Task, String> {
 }
 
 fn parse_summary(arguments: &[String]) -> Result<Task, String> {
-    let options = Options::parse(arguments, &SUMMARY)?;
+    let options = Options::parse(arguments, &CAPTURE)?;
     match options.words()[..] {
         [] => Err(String::from("there is no file")),
-        ["-"] => Ok(Task::Summary(Source::StandardInput)),
-        [path] => Ok(Task::Summary(Source::File(PathBuf::from(path)))),
+        [source] => Ok(Task::Summary(parse_source(source))),
         [_, word, ..] => Err(unwanted(word)),
+    }
+}
+
+fn parse_rewrite(arguments: &[String]) -> Result<Task, String> {
+    let options = Options::parse(arguments, &CAPTURE)?;
+    match options.words()[..] {
+        [] => Err(String::from("there is no file")),
+        [_] => Err(String::from("there is no new file")),
+        [_, "-"] => Err(String::from("a capture is rewritten to a file, not to `-`")),
+        [source, place] => Ok(Task::Rewrite(parse_source(source), PathBuf::from(place))),
+        [_, _, word, ..] => Err(unwanted(word)),
+    }
+}
+
+fn parse_source(text: &str) -> Source {
+    match text {
+        "-" => Source::StandardInput,
+        path => Source::File(PathBuf::from(path)),
     }
 }
 
@@ -435,6 +456,24 @@ mod tests {
     }
 
     #[test]
+    fn a_capture_is_rewritten_to_a_file() {
+        let file = |path: &str| Source::File(PathBuf::from(path));
+        for (text, source, place) in [
+            ("rewrite a b", file("a"), "b"),
+            ("rewrite - b", Source::StandardInput, "b"),
+            ("rewrite a ./-", file("a"), "./-"),
+            ("rewrite -- --help -d", file("--help"), "-d"),
+        ] {
+            match parsed(text) {
+                Ok(Task::Rewrite(from, to)) => {
+                    assert_eq!((from, to), (source, PathBuf::from(place)));
+                }
+                other => panic!("{text}: {other:?}"),
+            }
+        }
+    }
+
+    #[test]
     fn time_limits_and_retries_have_bounds() {
         for bad in ["0", "-1", "nan", "inf", "1e9", "1s", ""] {
             assert!(parse_limit(Some(bad)).is_err(), "{bad}");
@@ -468,6 +507,12 @@ mod tests {
             "summary - -",
             "summary --format json a",
             "summary -d",
+            "rewrite",
+            "rewrite a",
+            "rewrite a -",
+            "rewrite - -",
+            "rewrite a b c",
+            "rewrite --raw a b",
         ] {
             assert!(parsed(bad).is_err(), "{bad}");
         }

@@ -4,7 +4,7 @@ use std::ffi::OsString;
 use std::process::ExitCode;
 
 use crate::arguments::{self, Task};
-use crate::{client, output, server, signals, summary};
+use crate::{client, output, rewrite, server, signals, summary};
 
 const FAILED: u8 = 1;
 const BAD_ARGUMENTS: u8 = 2;
@@ -18,6 +18,7 @@ pub fn run(arguments: impl Iterator<Item = OsString>) -> ExitCode {
     let done = match task {
         Task::Print(text) => output::put(text.as_bytes()),
         Task::Summary(source) => summary::run(&source),
+        Task::Rewrite(source, place) => rewrite::run(&source, &place),
         Task::Request(request) => match client::run(&request) {
             true => Ok(()),
             // It has said why.

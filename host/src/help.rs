@@ -24,6 +24,7 @@ pub fn of(command: &str) -> Option<String> {
         "schedule" => &[include_str!("help/schedule.txt"), UNIT, OPTIONS, EXIT],
         "search" => &[include_str!("help/search.txt"), OPTIONS, EXIT],
         "summary" => &[include_str!("help/summary.txt"), EXIT],
+        "rewrite" => &[include_str!("help/rewrite.txt"), EXIT],
         _ => return None,
     };
     Some(parts.concat())
@@ -34,8 +35,8 @@ mod tests {
     use super::*;
     use crate::arguments;
 
-    const COMMANDS: [&str; 9] = [
-        "board", "rows", "get", "set", "raise", "lower", "schedule", "search", "summary",
+    const COMMANDS: [&str; 10] = [
+        "board", "rows", "get", "set", "raise", "lower", "schedule", "search", "summary", "rewrite",
     ];
 
     /// But for the file of boards, which is not there to be read.

@@ -1,4 +1,4 @@
-//! SIGINT and SIGTERM ask the board to stop.
+//! SIGINT and SIGTERM ask the program to stop.
 
 use std::sync::atomic::{AtomicBool, Ordering};
 
@@ -9,18 +9,21 @@ static STOP: AtomicBool = AtomicBool::new(false);
 
 extern "C" {
     fn signal(number: i32, handler: extern "C" fn(i32)) -> usize;
+    fn siginterrupt(number: i32, interrupts: i32) -> i32;
 }
 
 extern "C" fn note(_number: i32) {
     STOP.store(true, Ordering::Relaxed);
 }
 
-/// From now on these signals do not end the program.
+/// From now on these signals do not end the program, only a read that waits.
 pub fn catch() {
-    // SAFETY: the handler only stores to an atomic, which a handler may.
-    unsafe {
-        signal(SIGINT, note);
-        signal(SIGTERM, note);
+    for number in [SIGINT, SIGTERM] {
+        // SAFETY: the handler only stores to an atomic, which a handler may.
+        unsafe {
+            signal(number, note);
+            siginterrupt(number, 1);
+        }
     }
 }
 

@@ -12,6 +12,8 @@ use udgornwy::ffi::{self, Answer, Board, Command, Places};
 use udgornwy::hex::{self, digits};
 use udgornwy::refusal::Refusal;
 
+const CAPTURE_CALLS: [&str; 4] = ["capread", "capwrite", "summary", "rewrite"];
+
 /// The board as the calls so far left it; none where a poke has changed it.
 struct Session(Option<Board>);
 
@@ -33,6 +35,7 @@ impl Session {
                 Some(capture_calls::write(room, ids, records))
             }
             ["summary", capture] => Some(capture_calls::summarize(&bytes(capture))),
+            ["rewrite", room, capture] => Some(capture_calls::rewrite(room, &bytes(capture))),
             ["poke", ..] => {
                 self.0 = None;
                 None
@@ -151,23 +154,22 @@ fn calls() -> impl Iterator<Item = (String, String)> {
 
 #[test]
 fn the_libraries_answer_the_call_list_as_stored() {
-    let (mut session, mut asked, mut on_captures) = (Session(None), 0, 0);
+    let (mut session, mut asked) = (Session(None), 0);
+    let mut on_captures = CAPTURE_CALLS.map(|name| (name, 0));
     for (call, stored) in calls() {
         if let Some(answer) = session.answer(&call) {
             let is_read = answer == "reports" && stored.starts_with("reports");
             assert!(is_read || answer == stored, "{call}\n{answer}\n{stored}");
             asked += 1;
-            on_captures += usize::from(is_on_captures(&call));
+            for (name, count) in &mut on_captures {
+                *count += usize::from(call.starts_with(&format!("{name} ")));
+            }
         }
     }
     assert!(asked > 3000, "only {asked} calls");
-    assert!(on_captures > 500, "only {on_captures} calls on captures");
-}
-
-fn is_on_captures(call: &str) -> bool {
-    ["capread ", "capwrite ", "summary "]
-        .iter()
-        .any(|name| call.starts_with(name))
+    let all: usize = on_captures.iter().map(|(_, count)| count).sum();
+    let each = on_captures.iter().all(|(_, count)| *count > 10);
+    assert!(all > 500 && each, "only {on_captures:?}");
 }
 
 /// The parser refuses what the stored listing refuses with 2 to 6, and finds the parts of every other packet.

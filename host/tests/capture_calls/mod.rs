@@ -2,10 +2,11 @@
 
 use crate::{bytes, refused};
 use std::io::{self, Read};
-use udgornwy::ffi::captures::{self, Head, Next, Record, BAD_RECORD, COUNTS};
+use udgornwy::ffi::captures::{self, Head, Next, Record, Rewritten, BAD_RECORD, COUNTS};
 use udgornwy::ffi::ID_SIZE;
 use udgornwy::hex::digits;
 use udgornwy::refusal::Refusal;
+use udgornwy::rewrite::{self, Failure};
 use udgornwy::summary;
 
 /// What each byte of a buffer is before the call.
@@ -114,6 +115,39 @@ fn record<'a>(field: &str, packet: &'a [u8]) -> Record<'a> {
         counter: counter.parse().expect("a counter"),
         packet,
     }
+}
+
+/// The whole capture at once; in pieces, where the buffer has room for it, the bytes are the same.
+pub fn rewrite(room: &str, capture: &[u8]) -> String {
+    let mut buffer = vec![FILLER; room.parse().expect("a length")];
+    let answer = captures::rewrite_capture(&mut buffer, capture);
+    let length = answer.map_or(0, |rewritten| rewritten.length);
+    let (written, rest) = buffer.split_at(length);
+    if answer != Err(Refusal(54)) {
+        assert_eq!(rewrite_pieces(capture), (answer, written.to_vec()));
+    }
+    let text = match answer {
+        Ok(Rewritten { refusal: None, .. }) => format!("capture {}", digits(written)),
+        Ok(Rewritten {
+            refusal: Some(refusal),
+            ..
+        }) => format!("capture {} {}", digits(written), refused(&refusal)),
+        Err(refusal) => refused(&refusal),
+    };
+    text + dirty(rest)
+}
+
+fn rewrite_pieces(capture: &[u8]) -> (Result<Rewritten, Refusal>, Vec<u8>) {
+    let mut written = Vec::new();
+    let answer = match rewrite::rewrite(Pieces::of(capture), &mut written, 0) {
+        Ok(refusal) => Ok(Rewritten {
+            length: written.len(),
+            refusal,
+        }),
+        Err(Failure::Refused(refusal)) => Err(refusal),
+        Err(failure) => panic!("{failure:?}"),
+    };
+    (answer, written)
 }
 
 /// Counted at once; in pieces, through the narrowest window and a wider one, the text is the same.
