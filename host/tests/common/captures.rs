@@ -22,8 +22,10 @@ fn number(version: Version, number: u16) -> Vec<u8> {
 /// The head of a capture with this board count, and the IDs of so many boards, each with one of its own.
 pub fn head(version: Version, boards: u16) -> Vec<u8> {
     let ids = (0..boards).flat_map(|board| board.to_le_bytes().repeat(8));
-    let mut head = b"VLG".to_vec();
-    head.extend(version.number().to_le_bytes());
+    let mut head = match version {
+        One => b"VLG\x01\x00".to_vec(),
+        Two => b"VLG\x02\x00".to_vec(),
+    };
     head.extend(number(version, boards));
     head.extend(ids);
     head
