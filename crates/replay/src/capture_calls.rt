@@ -13,6 +13,9 @@ use captures::reading::Opened;
 use captures::writing::Written;
 use rewriting::Rewritten;
 use tool::listing::Listed;
+ghost use mathlib.Core.Path.{_≡_};
+ghost use lib.ListN.{length};
+ghost use Rattle.summing.specs.Text.{longestText};
 
 // The refusal of a capture, behind what was read of it.
 fn put_ending(text: &mut [u8], at: usize, number: u8) -> usize {
@@ -223,13 +226,20 @@ pub(crate) fn rewrite(left: &[u8], text: &mut [u8], at: usize) -> usize {
     call_with_buffer(Call::Rewrite, left, text, at)
 }
 
+// Room for the lines of a summary. The `ensures` gives only the length, as in `hex::room`.
+fn room_of_summary() -> [u8; summing::LONGEST_TEXT]
+    ensures { λ r. ⌜ longestText ≡ length r ⌝ }
+{
+    [0; summing::LONGEST_TEXT]
+}
+
 // summary CAPTURE
 pub(crate) fn summary(left: &[u8], text: &mut [u8], at: usize) -> usize {
     let mut bytes = hex::room();
     let Decoded::Until(end) = fields::decode_last(left, &mut bytes, 0) else {
         return output::put_bad(text, at);
     };
-    let mut lines = [0u8; summing::LONGEST_TEXT];
+    let mut lines = room_of_summary();
     let Listed::Length(length) = summing::summary(&mut lines, octets::first_bytes(&bytes, end))
     else {
         return at;
