@@ -1,7 +1,8 @@
-//! A file that is written beside its place, and put there whole or not at all.
+//! A file for its owner alone that is written beside its place, and put there whole or not at all.
 
-use std::fs::{self, File};
+use std::fs::{self, File, OpenOptions};
 use std::io::{self, ErrorKind};
+use std::os::unix::fs::OpenOptionsExt;
 use std::path::{Path, PathBuf};
 use std::process;
 
@@ -67,10 +68,12 @@ fn folder_of(place: &Path) -> &Path {
 
 /// Where a run that was killed has left a file of this name, the next number is taken.
 fn create_in(folder: &Path) -> io::Result<(PathBuf, File)> {
+    let mut options = OpenOptions::new();
+    options.write(true).create_new(true).mode(0o600);
     let mut number = process::id();
     loop {
         let path = folder.join(format!(".udgornwy-{number}"));
-        match File::create_new(&path) {
+        match options.open(&path) {
             Err(error) if error.kind() == ErrorKind::AlreadyExists => {
                 number = number.wrapping_add(1);
             }

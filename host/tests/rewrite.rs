@@ -389,19 +389,17 @@ fn a_file_of_another_run_stays() {
     assert_eq!(folder.bytes(&another), b"kept");
 }
 
-/// Whatever those of the old file are.
+/// It bears passwords, whoever may read the old file.
 #[test]
-fn the_permissions_are_those_of_a_new_file() {
-    let folder = folder_with("permissions", &head(One, 1));
-    folder.put("other", b"");
-    let none = fs::set_permissions(folder.path("old"), Permissions::from_mode(0o400));
-    none.expect("permissions");
-    succeeded(&folder.run(&REWRITE));
-    let mode = |name| {
-        let metadata = fs::metadata(folder.path(name)).expect("the file");
-        metadata.permissions().mode()
-    };
-    assert_eq!(mode("new"), mode("other"));
+fn the_owner_alone_may_read_the_new_file() {
+    for mode in [0o400, 0o644] {
+        let folder = folder_with("permissions", &head(One, 1));
+        let set = fs::set_permissions(folder.path("old"), Permissions::from_mode(mode));
+        set.expect("permissions");
+        succeeded(&folder.run(&REWRITE));
+        let metadata = fs::metadata(folder.path("new")).expect("the file");
+        assert_eq!(metadata.permissions().mode() & 0o777, 0o600, "{mode:o}");
+    }
 }
 
 /// With the capture of E1, E2 and a record that is cut short.
