@@ -79,7 +79,7 @@ fn put_version(text: &mut [u8], at: usize, version: u64) -> usize {
     output::put_decimal(text, at, b"version ", version)
 }
 
-// The version of a capture whose head is refused: 0 where mark or version is. Else its low byte, behind the mark, is all of it.
+// The version of a capture whose head is refused: 0 where mark or version is, else 1 or 2, the low byte behind the mark.
 fn version_of_refused(capture: &[u8], number: u8) -> u8 {
     if number < 52 {
         return 0;
@@ -153,7 +153,7 @@ fn write_list(text: &mut [u8], at: usize, buffer: &mut [u8], ids: &[u8], list: &
     put_written(text, at, written, buffer)
 }
 
-// IDS I.D.C.HEX ..
+// Makes capwrite with what is left behind ROOM.
 fn write_capture(left: &[u8], text: &mut [u8], at: usize, buffer: &mut [u8]) -> usize {
     let mut ids = hex::room();
     let Decoded::Until(end) = capture_lists::read_ids(left, &mut ids) else {
@@ -168,7 +168,7 @@ fn write_capture(left: &[u8], text: &mut [u8], at: usize, buffer: &mut [u8]) -> 
     )
 }
 
-// The answer of rewriting: that of a write, and refusal 53 behind it.
+// The answer of rewriting: that of a write, and refusal 53 behind a part.
 fn put_rewritten(text: &mut [u8], at: usize, rewritten: Rewritten, buffer: &[u8]) -> usize {
     match rewritten {
         Rewritten::Refused(number) => put_written(text, at, Written::Refused(number), buffer),
@@ -180,7 +180,7 @@ fn put_rewritten(text: &mut [u8], at: usize, rewritten: Rewritten, buffer: &[u8]
     }
 }
 
-// CAPTURE
+// Makes rewrite with what is left behind ROOM.
 fn rewrite_capture(left: &[u8], text: &mut [u8], at: usize, buffer: &mut [u8]) -> usize {
     let mut bytes = hex::room();
     let Decoded::Until(end) = fields::decode_last(left, &mut bytes, 0) else {
