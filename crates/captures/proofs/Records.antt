@@ -12,6 +12,7 @@ use Rattle.captures.specs.Form.{indexSize, directionAt, counterAt, sizeA
 use Rattle.captures.specs.Reading.{indexIn, directionIn, counterIn, sizeIn, recordIn, inRange, item, reading, read, nextRecord}
 use Rattle.captures.specs.Statements.{resumed, readAfter, ReadStep}
 use Rattle.captures.specs.declared.Version.{Version}
+use Rattle.captures.specs.declared.reading.NextRecord.{NextRecord}
 use Rattle.captures.proofs.Fields.{field-front}
 
 -- bytes that belong to a record are passed over
@@ -131,3 +132,9 @@ read-step version boards (b ∷ s) = by-head (ltb (length (b ∷ s)) (packetAt v
     by-head : (t : Bool) → ltb (length (b ∷ s)) (packetAt version) ≡ t → Goal
     by-head true e = rw (ne-eqb (length (b ∷ s)) 0 (λ z. omega arith), e)
     by-head false e = by-fields (ltb-false _ _ e) (inRange version boards (b ∷ s)) refl
+
+-- what stands first was found
+pub read-by :
+    (version : Version) (boards : ℕ) (bytes : List ℕ) {found : NextRecord} → nextRecord version boards bytes ≡ found
+    → read version boards bytes ≡ readAfter (read version boards) bytes found
+read-by version boards bytes e = read-step version boards bytes ∙ ap (readAfter (read version boards) bytes) e

@@ -1,11 +1,10 @@
 -- Laws of each version, and what is known of the version of a capture.
-use Prim.Native.Nat.{_^_, _<_, _≤_}
+use Prim.Native.Nat.{ℕ, _^_, _<_, _≤_}
 use native.Mathlib.Omega.{arith}
 use mathlib.Core.Bool.{Bool, true, false, cond, not, _||_}
 use mathlib.Core.List.{List}
 use mathlib.Core.Option.{Option, none, some, orElse}
 use mathlib.Core.Path.{_≡_, refl, sym, _∙_}
-use Prim.Native.Nat.{ℕ}
 use Rattle.framing.specs.Refusal.{firstRefusal}
 use Rattle.framing.proofs.Refusals.{first-of-joined}
 use Rattle.captures.specs.Form.{newest, indexSize, boardLimit}

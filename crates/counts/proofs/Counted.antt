@@ -9,13 +9,11 @@ use lib.ListN.{length, take, drop, getD, length-drop, length-set}
 use lib.Seq.{take-all}
 use Rattle.block.specs.Reading.{partOf}
 use Rattle.captures.specs.declared.Version.{Version}
-use Rattle.captures.specs.declared.reading.NextRecord.{NextRecord}
 use Rattle.captures.specs.declared.reading.NextRecord.the-variants as next
 use Rattle.captures.specs.Form.{Record, recordOf}
 use Rattle.captures.specs.Reading.{Reading, left, wrong, item, read, recordsOf, nextRecord}
-use Rattle.captures.specs.Statements.{readAfter}
 use Rattle.captures.proofs.Next.{Placed, placed}
-use Rattle.captures.proofs.Records.{read-step}
+use Rattle.captures.proofs.Records.{read-by}
 use Rattle.counts.specs.Counting.{place, more, counted, countedOne, endOf, Counts}
 use Rattle.counts.specs.declared.counting.Ending.the-variants.{Left, Wrong}
 
@@ -26,9 +24,6 @@ pub record Same (version : Version) (boards : ℕ) (bytes before rest now : List
   pub as-many : length now ≡ length before
 
 module _ (version : Version) (boards : ℕ) (rest : List ℕ) where
-  by-next : {found : NextRecord} → nextRecord version boards rest ≡ found → read version boards rest ≡ readAfter (read version boards) rest found
-  by-next e = read-step version boards rest ∙ ap (readAfter (read version boards) rest) e
-
   -- no record is left: the contract
   ends :
       {bytes before now : List ℕ} (last : Reading) → read version boards rest ≡ last → recordsOf last ≡ [] → Same version boards bytes before rest now
@@ -43,15 +38,15 @@ module _ (version : Version) (boards : ℕ) (rest : List ℕ) where
   module _ {bytes before now : List ℕ} (so-far : Same version boards bytes before rest now) where
     pub ended : nextRecord version boards rest ≡ next.End → Counts version boards bytes before (Left 0) now
     unfolding endOf recordsOf
-    ended e = ends (left []) (by-next e) refl so-far
+    ended e = ends (left []) (read-by version boards rest e) refl so-far
 
     pub cut : nextRecord version boards rest ≡ next.Cut → Counts version boards bytes before (Left (length rest)) now
     unfolding endOf recordsOf
-    cut e = ends (left rest) (by-next e) refl so-far
+    cut e = ends (left rest) (read-by version boards rest e) refl so-far
 
     pub outside : nextRecord version boards rest ≡ next.Wrong → Counts version boards bytes before Wrong now
     unfolding endOf recordsOf
-    outside e = ends wrong (by-next e) refl so-far
+    outside e = ends wrong (read-by version boards rest e) refl so-far
 
   module _ {index direction counter packet after : ℕ} (e : nextRecord version boards rest ≡ next.Record index direction counter packet after) where
     in-place : Placed rest packet after
@@ -69,7 +64,7 @@ module _ (version : Version) (boards : ℕ) (rest : List ℕ) where
         (sym (take-all after (drop (length rest - after) rest) (simp length-drop (omega (arith, in-place .shorter)))))
 
     read-on : read version boards rest ≡ item found (read version boards (partOf after 0 rest))
-    read-on = by-next e ∙ λ i. item (recordOf index direction counter (packet-part i)) (read version boards (rest-part i))
+    read-on = read-by version boards rest e ∙ λ i. item (recordOf index direction counter (packet-part i)) (read version boards (rest-part i))
 
     pub same-on : {bytes before now : List ℕ} → Same version boards bytes before rest now → Same version boards bytes before (partOf after 0 rest) (countedOne now found)
     unfolding endOf recordsOf counted

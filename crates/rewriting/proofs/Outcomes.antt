@@ -4,7 +4,7 @@ use native.Mathlib.Omega.{arith}
 use mathlib.Core.Bool.{Bool, true, false, cond}
 use mathlib.Core.List.{List, [], _∷_, map}
 use mathlib.Core.Option.{none, some, orElse}
-use mathlib.Core.Path.{_≡_, refl, sym, ap, _∙_}
+use mathlib.Core.Path.{_≡_, refl, sym, ap, subst, _∙_}
 use borrow.Author.Tests.{lt-ltb, le-ltb, ltb-true, ltb-false}
 use lib.Dec.{ltb}
 use lib.ListN.{length, take, drop, length-append}
@@ -20,6 +20,7 @@ use Rattle.captures.proofs.Lists.{length-head}
 use Rattle.captures.proofs.Opening.{head-refused, accepted-as, reading-same, records-same}
 use Rattle.captures.proofs.Rewriting.{ids-read, ids-right}
 use Rattle.rewriting.specs.Rewriting.{recordsRead, bytesRead, rewritten, RewriteCall, rewriteCall, captureOf, rewriteRefusals, rewriteRefusal, rewrittenAs, Rewrites, fitted}
+use Rattle.rewriting.specs.declared.Fitted.{Fitted}
 use Rattle.rewriting.specs.declared.Fitted.the-variants as fits
 use Rattle.rewriting.specs.declared.Rewritten.the-variants.{Whole, Part, Refused}
 
@@ -31,30 +32,19 @@ refusal-as call =
     ∙ ap (λ o. orElse o (cond (tooShort (call .buffer) (rewritten (call .capture))) (some 54) none)) (first-of-part call captureOf headRefusals)
 
 -- what the answer of `fit` tells
-module _ (room : ℕ) (reading : Reading) where
-  no-room-by : (short wrong : Bool) → cond short fits.NoRoom (cond wrong fits.Part fits.Whole) ≡ fits.NoRoom → short ≡ true
-  no-room-by true wrong e = refl
-  no-room-by false true e = cc
-  no-room-by false false e = cc
+abbrev Tells : Bool → Bool → Fitted → Type 0
+Tells short wrong fits.NoRoom = short ≡ true
+Tells short wrong fits.Whole = (short ≡ false) × (wrong ≡ false)
+Tells short wrong fits.Part = (short ≡ false) × (wrong ≡ true)
 
-  whole-by : (short wrong : Bool) → cond short fits.NoRoom (cond wrong fits.Part fits.Whole) ≡ fits.Whole → (short ≡ false) × (wrong ≡ false)
-  whole-by true wrong e = (cc, cc)
-  whole-by false true e = (refl, cc)
-  whole-by false false e = (refl, refl)
+by-tests : (short wrong : Bool) → Tells short wrong (cond short fits.NoRoom (cond wrong fits.Part fits.Whole))
+by-tests true wrong = refl
+by-tests false true = (refl, refl)
+by-tests false false = (refl, refl)
 
-  part-by : (short wrong : Bool) → cond short fits.NoRoom (cond wrong fits.Part fits.Whole) ≡ fits.Part → (short ≡ false) × (wrong ≡ true)
-  part-by true wrong e = (cc, cc)
-  part-by false true e = (refl, refl)
-  part-by false false e = (refl, cc)
-
-  pub no-room-told : fitted room reading ≡ fits.NoRoom → ltb room (length (recordsRead reading)) ≡ true
-  no-room-told = no-room-by (ltb room (length (recordsRead reading))) (wrongRecord reading)
-
-  pub whole-told : fitted room reading ≡ fits.Whole → (ltb room (length (recordsRead reading)) ≡ false) × (wrongRecord reading ≡ false)
-  whole-told = whole-by (ltb room (length (recordsRead reading))) (wrongRecord reading)
-
-  pub part-told : fitted room reading ≡ fits.Part → (ltb room (length (recordsRead reading)) ≡ false) × (wrongRecord reading ≡ true)
-  part-told = part-by (ltb room (length (recordsRead reading))) (wrongRecord reading)
+pub fit-tells : (room : ℕ) (reading : Reading) {answer : Fitted} → fitted room reading ≡ answer → Tells (ltb room (length (recordsRead reading))) (wrongRecord reading) answer
+fit-tells room reading e =
+    subst (Tells (ltb room (length (recordsRead reading))) (wrongRecord reading)) e (by-tests (ltb room (length (recordsRead reading))) (wrongRecord reading))
 
 module _ (buffer capture : List ℕ) where
   pub head-refuses : {number : ℕ} → openedOf capture ≡ opened.Refused number → Rewrites (rewriteCall buffer capture) (Refused number) buffer
@@ -106,7 +96,7 @@ module _ (buffer capture : List ℕ) where
 
     module _ (room : ℕ) (left : room ≡ length buffer - (idsAt newest + length (take size (drop ids capture)))) (roomy : idsAt newest + length (take size (drop ids capture)) ≤ length buffer) where
       pub records-too-long : fitted room told ≡ fits.NoRoom → Rewrites (rewriteCall buffer capture) (Refused 54) buffer
-      records-too-long f = too-short (omega (arith, left, both-size, ltb-true room (length (recordsRead told)) (no-room-told room told f)))
+      records-too-long f = too-short (omega (arith, left, both-size, ltb-true room (length (recordsRead told)) (fit-tells room told f)))
 
       pub enough : ltb room (length (recordsRead told)) ≡ false → length bytes ≤ length buffer
       enough f = omega (arith, left, both-size, ltb-false room (length (recordsRead told)) f)
@@ -127,7 +117,7 @@ module _ (buffer capture : List ℕ) where
             }
 
         pub whole-put : fitted room told ≡ fits.Whole → Rewrites (rewriteCall buffer capture) (Whole end) after
-        whole-put f = let both = whole-told room told f in put-as false (both .0) (both .1)
+        whole-put f = let both = fit-tells room told f in put-as false (both .0) (both .1)
 
         pub part-put : fitted room told ≡ fits.Part → Rewrites (rewriteCall buffer capture) (Part end) after
-        part-put f = let both = part-told room told f in put-as true (both .0) (both .1)
+        part-put f = let both = fit-tells room told f in put-as true (both .0) (both .1)

@@ -16,8 +16,7 @@ use Rattle.captures.specs.declared.reading.NextRecord.{NextRecord}
 use Rattle.captures.specs.declared.reading.NextRecord.the-variants as next
 use Rattle.captures.proofs.Lists.{length-record}
 use Rattle.captures.proofs.Next.{Placed, placed}
-use Rattle.captures.proofs.Records.{read-step}
-use Rattle.captures.proofs.Told.{cut-some}
+use Rattle.captures.proofs.Records.{read-by}
 use Rattle.rewriting.specs.Rewriting.{recordsRead, fitted}
 use Rattle.rewriting.specs.declared.Fitted.the-variants as fits
 
@@ -30,34 +29,22 @@ less-room room first more inside = by-test (ltb (room - first) more) refl
     by-test false e = le-ltb room (first + more) (omega (arith, ltb-false (room - first) more e))
 
 module _ (version : Version) (boards : ℕ) (rest : List ℕ) where
-  by-next : {found : NextRecord} → nextRecord version boards rest ≡ found → read version boards rest ≡ readAfter (read version boards) rest found
-  by-next e = read-step version boards rest ∙ ap (readAfter (read version boards) rest) e
-
   -- no record is left
-  pub end-read : nextRecord version boards rest ≡ next.End → recordsRead (read version boards rest) ≡ []
-  unfolding recordsOf recordsBytes
-  end-read e = ap recordsRead (by-next e)
+  pub none-read :
+      {found : NextRecord} → recordsRead (readAfter (read version boards) rest found) ≡ [] → nextRecord version boards rest ≡ found
+      → recordsRead (read version boards rest) ≡ []
+  none-read nothing e = ap recordsRead (read-by version boards rest e) ∙ nothing
 
-  pub cut-read : nextRecord version boards rest ≡ next.Cut → recordsRead (read version boards rest) ≡ []
-  unfolding recordsOf recordsBytes
-  cut-read e = ap recordsRead (by-next e)
-
-  pub wrong-read : nextRecord version boards rest ≡ next.Wrong → recordsRead (read version boards rest) ≡ []
-  unfolding recordsOf recordsBytes
-  wrong-read e = ap recordsRead (by-next e)
-
-  module _ (room : ℕ) where
-    pub end-fits : nextRecord version boards rest ≡ next.End → fits.Whole ≡ fitted room (read version boards rest)
-    unfolding recordsOf recordsBytes wrongRecord
-    end-fits e = sym (ap (fitted room) (by-next e) ∙ rw (le-ltb room 0 (omega arith)))
-
-    pub cut-fits : nextRecord version boards rest ≡ next.Cut → fits.Part ≡ fitted room (read version boards rest)
-    unfolding recordsOf recordsBytes wrongRecord
-    cut-fits e = sym (ap (fitted room) (by-next e) ∙ rw (le-ltb room 0 (omega arith), cut-some version boards rest e))
-
-    pub wrong-fits : nextRecord version boards rest ≡ next.Wrong → fits.Part ≡ fitted room (read version boards rest)
-    unfolding recordsOf recordsBytes wrongRecord
-    wrong-fits e = sym (ap (fitted room) (by-next e) ∙ rw (le-ltb room 0 (omega arith)))
+  pub none-fits :
+      (room : ℕ) (cut : Bool) {found : NextRecord} → recordsRead (readAfter (read version boards) rest found) ≡ []
+      → wrongRecord (readAfter (read version boards) rest found) ≡ cut → nextRecord version boards rest ≡ found
+      → cond cut fits.Part fits.Whole ≡ fitted room (read version boards rest)
+  none-fits room cut nothing ends e =
+      sym
+      ((λ i.
+      cond (ltb room (length (none-read nothing e i))) fits.NoRoom
+      (cond ((ap wrongRecord (read-by version boards rest e) ∙ ends) i) fits.Part fits.Whole))
+      ∙ rw (le-ltb room 0 (omega arith)))
 
   -- a record stands first
   module _ {index direction counter packet after : ℕ} (e : nextRecord version boards rest ≡ next.Record index direction counter packet after) where
@@ -77,7 +64,7 @@ module _ (version : Version) (boards : ℕ) (rest : List ℕ) where
 
     pub read-on : recordsRead (read version boards rest) ≡ recordBytes newest found ++ recordsRead (read version boards behind)
     unfolding recordsOf recordsBytes
-    read-on = ap recordsRead (by-next e)
+    read-on = ap recordsRead (read-by version boards rest e)
 
     pub shorter : length behind < length rest
     shorter = simp length-drop (omega (arith, in-place .shorter))
@@ -94,4 +81,4 @@ module _ (version : Version) (boards : ℕ) (rest : List ℕ) where
     unfolding wrongRecord
     fits-on room inside = λ i.
         cond ((ap (ltb room) longer ∙ less-room room (packetAt newest + (packet - after)) (length (recordsRead (read version boards behind))) inside) i)
-        fits.NoRoom (cond (wrongRecord (by-next e i)) fits.Part fits.Whole)
+        fits.NoRoom (cond (wrongRecord (read-by version boards rest e i)) fits.Part fits.Whole)

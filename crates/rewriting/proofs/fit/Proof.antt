@@ -1,14 +1,17 @@
 -- `rewriting::fit` meets its contract.
 use Prim.Native.Nat.{ℕ}
 use native.Mathlib.Omega.{arith}
+use mathlib.Core.Bool.{true, false, not}
 use mathlib.Core.List.{List}
-use mathlib.Core.Path.{_≡_, refl, sym, _∙_}
+use mathlib.Core.Path.{_≡_, refl, sym, ap, _∙_}
 use lib.ListN.{length}
-use Rattle.captures.specs.Reading.{read, nextRecord}
+use Rattle.captures.specs.Form.{recordsBytes}
+use Rattle.captures.specs.Reading.{read, nextRecord, recordsOf, wrongRecord}
 use Rattle.captures.specs.declared.Version.{Version}
 use Rattle.captures.specs.declared.reading.NextRecord.the-variants as next
+use Rattle.captures.proofs.Told.{cut-some}
 use Rattle.rewriting.specs.Rewriting.{fitted}
-use Rattle.rewriting.proofs.Steps.{end-fits, cut-fits, wrong-fits, in-place, shorter, no-room, fits-on}
+use Rattle.rewriting.proofs.Steps.{none-fits, in-place, shorter, no-room, fits-on}
 use borrow.Author.Needs.{needs}
 use Rattle.rewriting.proofs.fit.Statement.{statement}
 use Rattle.rewriting.proofs.fit.Tie as tie
@@ -38,25 +41,31 @@ enum-told : tie.Need-enum-told Inv-loop μ-loop
 enum-told c = search needs
 
 returns : tie.Need-returns Inv-loop μ-loop
+unfolding recordsOf recordsBytes wrongRecord
 returns c =
     let k = c .before .before .before in
-    end-fits (version k) (boards k) (rest k) (k .loop .left) (sym (c .before .before .next-record .ensures) ∙ c .enum-told .given .1) ∙ sym (k .loop .inv)
+    let e = sym (c .before .before .next-record .ensures) ∙ c .enum-told .given .1 in
+    none-fits (version k) (boards k) (rest k) (k .loop .left) false refl refl e ∙ sym (k .loop .inv)
 
 enum-told-2 : tie.Need-enum-told-2 Inv-loop μ-loop
 enum-told-2 c = search needs
 
 returns-2 : tie.Need-returns-2 Inv-loop μ-loop
+unfolding recordsOf recordsBytes wrongRecord
 returns-2 c =
     let k = c .before .before .before in
-    cut-fits (version k) (boards k) (rest k) (k .loop .left) (sym (c .before .before .next-record .ensures) ∙ c .enum-told2 .given .1) ∙ sym (k .loop .inv)
+    let e = sym (c .before .before .next-record .ensures) ∙ c .enum-told2 .given .1 in
+    none-fits (version k) (boards k) (rest k) (k .loop .left) true refl (ap not (cut-some (version k) (boards k) (rest k) e)) e ∙ sym (k .loop .inv)
 
 enum-told-3 : tie.Need-enum-told-3 Inv-loop μ-loop
 enum-told-3 c = search needs
 
 returns-3 : tie.Need-returns-3 Inv-loop μ-loop
+unfolding recordsOf recordsBytes wrongRecord
 returns-3 c =
     let k = c .before .before .before in
-    wrong-fits (version k) (boards k) (rest k) (k .loop .left) (sym (c .before .before .next-record .ensures) ∙ c .enum-told3 .given .1) ∙ sym (k .loop .inv)
+    let e = sym (c .before .before .next-record .ensures) ∙ c .enum-told3 .given .1 in
+    none-fits (version k) (boards k) (rest k) (k .loop .left) true refl refl e ∙ sym (k .loop .inv)
 
 enum-known-packet : tie.Need-enum-known-packet Inv-loop μ-loop
 enum-known-packet c = search needs

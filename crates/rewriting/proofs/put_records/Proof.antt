@@ -4,13 +4,13 @@ use native.Mathlib.Omega.{arith}
 use mathlib.Core.List.{List}
 use mathlib.Core.Path.{_≡_, refl, sym, _∙_}
 use lib.ListN.{length}
-use Rattle.captures.specs.Form.{newest, packetAt, recordBytes}
-use Rattle.captures.specs.Reading.{read, nextRecord}
+use Rattle.captures.specs.Form.{newest, packetAt, recordBytes, recordsBytes}
+use Rattle.captures.specs.Reading.{read, nextRecord, recordsOf}
 use Rattle.captures.specs.declared.Version.{Version}
 use Rattle.captures.specs.declared.reading.NextRecord.the-variants as next
 use Rattle.captures.proofs.Buffers.{PutFrom, next-fits, put-on, put-all}
 use Rattle.rewriting.specs.Rewriting.{recordsRead}
-use Rattle.rewriting.proofs.Steps.{end-read, cut-read, wrong-read, in-place, found, size, read-on, shorter}
+use Rattle.rewriting.proofs.Steps.{none-read, in-place, found, size, read-on, shorter}
 use borrow.Author.Needs.{needs}
 use Rattle.rewriting.proofs.put_records.Statement.{statement}
 use Rattle.rewriting.proofs.put_records.Tie as tie
@@ -44,9 +44,10 @@ same-length : tie.Need-same-length Inv-loop μ-loop
 same-length c = c .before .before .before .loop .inv .same-room
 
 returns : tie.Need-returns Inv-loop μ-loop
+unfolding recordsOf recordsBytes
 returns c =
     let k = c .before .before .before in
-    put-all (k .loop .inv) (end-read (version k) (boards k) (rest k) (sym (c .before .before .next-record .ensures) ∙ c .enum-told .given .1))
+    put-all (k .loop .inv) (none-read (version k) (boards k) (rest k) refl (sym (c .before .before .next-record .ensures) ∙ c .enum-told .given .1))
 
 enum-told-2 : tie.Need-enum-told-2 Inv-loop μ-loop
 enum-told-2 c = search needs
@@ -55,9 +56,10 @@ same-length-2 : tie.Need-same-length-2 Inv-loop μ-loop
 same-length-2 c = c .before .before .before .loop .inv .same-room
 
 returns-2 : tie.Need-returns-2 Inv-loop μ-loop
+unfolding recordsOf recordsBytes
 returns-2 c =
     let k = c .before .before .before in
-    put-all (k .loop .inv) (cut-read (version k) (boards k) (rest k) (sym (c .before .before .next-record .ensures) ∙ c .enum-told2 .given .1))
+    put-all (k .loop .inv) (none-read (version k) (boards k) (rest k) refl (sym (c .before .before .next-record .ensures) ∙ c .enum-told2 .given .1))
 
 enum-told-3 : tie.Need-enum-told-3 Inv-loop μ-loop
 enum-told-3 c = search needs
@@ -66,9 +68,10 @@ same-length-3 : tie.Need-same-length-3 Inv-loop μ-loop
 same-length-3 c = c .before .before .before .loop .inv .same-room
 
 returns-3 : tie.Need-returns-3 Inv-loop μ-loop
+unfolding recordsOf recordsBytes
 returns-3 c =
     let k = c .before .before .before in
-    put-all (k .loop .inv) (wrong-read (version k) (boards k) (rest k) (sym (c .before .before .next-record .ensures) ∙ c .enum-told3 .given .1))
+    put-all (k .loop .inv) (none-read (version k) (boards k) (rest k) refl (sym (c .before .before .next-record .ensures) ∙ c .enum-told3 .given .1))
 
 enum-known-index : tie.Need-enum-known-index Inv-loop μ-loop
 enum-known-index c = search needs

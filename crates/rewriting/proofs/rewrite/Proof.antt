@@ -14,7 +14,7 @@ use Rattle.captures.specs.Writing.{wrongIds}
 use Rattle.captures.specs.declared.Version.{Version}
 use Rattle.captures.specs.declared.reading.Opened.the-variants as opened
 use Rattle.rewriting.specs.Rewriting.{recordsRead, bytesRead, fitted}
-use Rattle.rewriting.proofs.Outcomes.{whole-told, part-told, head-refuses, right-ids, head-too-long, records-too-long, enough, whole-put, part-put}
+use Rattle.rewriting.proofs.Outcomes.{fit-tells, head-refuses, right-ids, head-too-long, records-too-long, enough, whole-put, part-put}
 use borrow.Author.Needs.{needs}
 use Rattle.rewriting.proofs.rewrite.Statement.{statement}
 use Rattle.rewriting.proofs.rewrite.Tie as tie
@@ -136,7 +136,7 @@ enum-told-2 c = search needs
 put-requires : tie.Need-put-requires
 put-requires c κs =
     let f = c .before .before .before in
-    put-asks f (whole-told (room f) (reading (f .before .before)) (sym (fit-told f) ∙ c .before .enum-told2 .given .1) .0)
+    put-asks f (fit-tells (room f) (reading (f .before .before)) (sym (fit-told f) ∙ c .before .enum-told2 .given .1) .0)
 
 enum-told-3 : tie.Need-enum-told-3
 enum-told-3 c = search needs
@@ -144,7 +144,7 @@ enum-told-3 c = search needs
 put-requires-2 : tie.Need-put-requires-2
 put-requires-2 c κs =
     let f = c .before .before .before in
-    put-asks f (part-told (room f) (reading (f .before .before)) (sym (fit-told f) ∙ c .before .enum-told3 .given .1) .0)
+    put-asks f (fit-tells (room f) (reading (f .before .before)) (sym (fit-told f) ∙ c .before .enum-told3 .given .1) .0)
 
 returns-2 : tie.Need-returns-2
 returns-2 c =
