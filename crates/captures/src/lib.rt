@@ -22,7 +22,7 @@ pub(crate) const INDEX_SIZE: usize = 2;
 pub const BOARD_LIMIT: usize = 1000;
 
 // Where the parts of the head stand.
-pub(crate) const VERSION_AT: usize = 3;
+pub const VERSION_AT: usize = 3;
 
 pub(crate) const COUNT_AT: usize = 5;
 

@@ -84,7 +84,7 @@ fn version_of_refused(capture: &[u8], number: u8) -> u8 {
     if number < 52 {
         return 0;
     }
-    octets::byte_at(capture, 3)
+    octets::byte_at(capture, captures::VERSION_AT)
 }
 
 fn put_capture(text: &mut [u8], at: usize, capture: &[u8]) -> usize {
