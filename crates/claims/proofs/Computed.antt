@@ -22,7 +22,8 @@ use Rattle.model.specs.Measurement.{measureRefusals, measureRefusal, measuredBo
 use Rattle.model.specs.Record.{setUpRefusals, setUpRefusal, setUpBoard, sound}
 use Rattle.model.specs.Step.{requestRefusals, stepRefusals, stepRefusal, step}
 use Rattle.tool.specs.CommandList.{commandList}
-use Rattle.tool.specs.Listing.{hexBytes, reportLine, reportLines}
+use Rattle.numerals.specs.Numerals.{hexBytes}
+use Rattle.tool.specs.Listing.{reportLine, reportLines}
 use Rattle.tool.specs.Request.{writeRefusals, writeRefusal}
 use Rattle.tool.specs.Response.{responseRefusals, anyResponseRefusals, anyResponseRefusal}
 use Rattle.claims.specs.Examples.{happened}

@@ -7,7 +7,7 @@ ghost use Rattle.octets.specs.Octets.{Overwrites};
 ghost use Rattle.numerals.specs.Numerals.{hexDigit, hexBytes, digit, decimal, Before, Holds};
 
 // A number of 64 bits has up to 20 digits.
-const DIGITS: usize = 20;
+pub const DIGITS: usize = 20;
 
 fn hex_digit(digit: u8) -> u8
     requires { ⌜ digit < 16 ⌝ }

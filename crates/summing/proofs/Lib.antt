@@ -1,9 +1,8 @@
-pub mod Decimals
+pub mod Fields
 pub mod Each
 pub mod Lines
 pub mod Shown
 pub mod Summaries
 pub mod Pieces
-pub mod ReadDecimals
 pub mod TextSize
 pub mod Windows

@@ -6,11 +6,12 @@ use mathlib.Core.List.{List, [], _∷_, _++_}
 use lib.Dec.{ltb, eqb}
 use lib.ListN.{length, getD, length-append}
 use Rattle.captures.specs.Form.{newest, boardLimit}
+use Rattle.numerals.specs.Numerals.{decimal}
+use Rattle.numerals.proofs.Decimals.{few-digits, decimal-short}
 use Rattle.tool.specs.Listing.{lineFeed}
 use Rattle.counts.specs.Counting.{numbersPerBoard}
-use Rattle.summing.specs.Text.{decimal, comma, each, lineAt, linesOf, lastLine}
+use Rattle.summing.specs.Text.{comma, each, lineAt, linesOf, lastLine}
 use Rattle.summing.specs.Statements.{TextsFit}
-use Rattle.summing.proofs.Decimals.{few-digits, decimal-short}
 
 line-by : (t : Bool) (index number count : List ℕ) → length index ≤ 3 → length number ≤ 2 → length count ≤ 20
     → length (cond t [] (index ++ comma ∷ number ++ comma ∷ count ++ lineFeed)) ≤ 28

@@ -1,5 +1,5 @@
 -- What holds of summaries, beside the contracts.
-use Prim.Native.Nat.{ℕ, _+_, _-_, _*_, _^_, _<_, _≤_}
+use Prim.Native.Nat.{ℕ, _+_, _*_, _≤_}
 use mathlib.Core.Bool.{cond}
 use mathlib.Core.List.{List, [], _∷_, _++_}
 use mathlib.Core.Path.{_≡_}
@@ -16,15 +16,7 @@ use Rattle.counts.specs.Counting.{numbersPerBoard, countLimit, endingNumber, Co
 use Rattle.counts.specs.Statements.{zeros, Progress, start, allTaken}
 use Rattle.counts.specs.declared.counting.Ending.{Ending}
 use Rattle.counts.specs.declared.counting.Ending.the-variants.{Left, Wrong}
-use Rattle.summing.specs.Text.{decimal, textOf, summaryOf, longestText}
-
--- the number of decimal digits, behind those read so far
-unfoldable pub numberFrom : ℕ → List ℕ → ℕ
-numberFrom so-far [] = so-far
-numberFrom so-far (digit ∷ digits) = numberFrom (so-far * 10 + (digit - 0x30)) digits
-
-abbrev pub DecimalsRead : Type 0
-DecimalsRead = (number : ℕ) → number < 10 ^ 20 → numberFrom 0 (decimal number) ≡ number
+use Rattle.summing.specs.Text.{textOf, summaryOf, longestText}
 
 -- a buffer of this size has room for the text of the counts of all boards
 abbrev pub TextsFit : Type 0

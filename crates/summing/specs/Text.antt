@@ -4,9 +4,10 @@ use mathlib.Core.Bool.{cond}
 use mathlib.Core.List.{List, [], _∷_, _++_}
 use mathlib.Core.Option.{Option, none, some}
 use mathlib.Core.Path.{_≡_}
-use lib.Dec.{leb, ltb, eqb}
+use lib.Dec.{leb, eqb}
 use lib.ListN.{length, drop, getD}
 use Rattle.octets.specs.Octets.{overwrite}
+use Rattle.numerals.specs.Numerals.{decimal}
 use Rattle.captures.specs.Form.{newest, Record, boardLimit}
 use Rattle.captures.specs.Reading.{recordsIn, captureRefusal}
 use Rattle.tool.specs.Listing.{lineFeed, refusedLine}
@@ -14,19 +15,6 @@ use Rattle.counts.specs.Counting.{numbersPerBoard, countOf}
 use Rattle.summing.specs.declared.PairLine.{PairLine}
 use Rattle.summing.specs.declared.Room.{Room}
 use Rattle.summing.specs.declared.Room.the-variants as room
-
-abbrev pub digit : ℕ → ℕ
-digit n = 0x30 + n
-
--- a number in decimal, in up to so many digits
-unfoldable pub decimalIn : ℕ → ℕ → List ℕ
-decimalIn zero number = []
-decimalIn (suc digits) number =
-    cond (ltb number 10) (digit number ∷ []) (decimalIn digits (number / 10) ++ digit (number % 10) ∷ [])
-
--- 20 digits hold every number under 2 ^ 64
-abbrev pub decimal : ℕ → List ℕ
-decimal number = decimalIn 20 number
 
 abbrev pub comma : ℕ
 comma = 0x2C
@@ -78,11 +66,6 @@ longestText = boardLimit newest * numbersPerBoard * 28 + 11
 -- three numbers, and a byte after each
 abbrev pub longestLine : ℕ
 longestLine = 63
-
--- bytes put before those that stand from `end` on
-pub record Before (bytes : List ℕ) (end : ℕ) (before : List ℕ) (start : ℕ) (after : List ℕ) : Type 0 where
-  pub ends : start + length bytes ≡ end
-  pub stands : drop start after ≡ bytes ++ drop end before
 
 -- a line that ends its buffer
 pub record Holds (line : List ℕ) (answer : PairLine) : Type 0 where

@@ -4,43 +4,17 @@ use tool::listing::Line;
 use tool::listing::Listed;
 ghost use mathlib.Core.List.{_∷_, [], _++_};
 ghost use mathlib.Core.Path.{_≡_};
-ghost use Prim.Native.Nat.{_≤_, _<_};
+ghost use Prim.Native.Nat.{_≤_};
 ghost use lib.ListN.{length};
+ghost use Rattle.numerals.specs.Numerals.{decimal, Before};
 ghost use Rattle.tool.specs.Listing.{lineOf, Shows};
-ghost use Rattle.summing.specs.Text.{digit, decimal, pairLine, pairAt, linesOf, lastLine, textOf, summaryOf, Before, Holds, roomAfter, WritesLines};
+ghost use Rattle.summing.specs.Text.{pairLine, pairAt, linesOf, lastLine, textOf, summaryOf, Holds, roomAfter, WritesLines};
 
 // Room for the text of the counts of all boards: lines of up to 28 bytes, and that of a refusal.
 pub const LONGEST_TEXT: usize = captures::BOARD_LIMIT * counts::counting::NUMBERS * 28 + 11;
 
-// A number of 64 bits has up to 20 digits.
-const DIGITS: usize = 20;
-
 // The longest line of a pair: three numbers, and a byte after each.
-const LONGEST_LINE: usize = 3 * (DIGITS + 1);
-
-fn digit_of(number: u64) -> u8
-    requires { ⌜ number < 10 ⌝ }
-    ensures { λ r. ⌜ r ≡ digit number ⌝ }
-{
-    0x30 + number as u8
-}
-
-// Puts a number in decimal before `end`, and says where it starts.
-fn write_number(bytes: &mut [u8], end: usize, number: u64) -> usize
-    requires { ⌜ 20 ≤ end ⌝ }
-    requires { ⌜ end ≤ length (now bytes) ⌝ }
-    ensures { λ r. ⌜ Before (decimal number) end (now (bytes .entry)) r (now (bytes .exit)) ⌝ }
-{
-    let mut at = end - 1;
-    let mut rest = number;
-    while 9 < rest {
-        bytes[at] = digit_of(rest % 10);
-        rest /= 10;
-        at -= 1;
-    }
-    bytes[at] = digit_of(rest);
-    at
-}
+const LONGEST_LINE: usize = 3 * (numerals::DIGITS + 1);
 
 // Puts a number in decimal, and then a mark, before `end`, and says where they start.
 fn write_field(bytes: &mut [u8], end: usize, number: u64, mark: u8) -> usize
@@ -50,7 +24,12 @@ fn write_field(bytes: &mut [u8], end: usize, number: u64, mark: u8) -> usize
 {
     let at = end - 1;
     bytes[at] = mark;
-    write_number(bytes, at, number)
+    let numeral = numerals::decimal(number);
+    let digits = numeral.bytes;
+    let first = numeral.start;
+    let start = at - (numerals::DIGITS - first);
+    octets::overwrite(bytes, start, &digits[first..]);
+    start
 }
 
 // A line, in the bytes from `start` on.

@@ -2,7 +2,7 @@
 use native.Mathlib.Omega.{arith}
 use mathlib.Core.Path.{refl}
 use borrow.Author.Tests.{eq-eqb, ne-eqb}
-use Rattle.summing.proofs.Decimals.{field-start, pair-before}
+use Rattle.summing.proofs.Fields.{field-start, pair-before}
 use borrow.Author.Needs.{needs}
 use Rattle.summing.proofs.pair_line.Statement.{statement}
 use Rattle.summing.proofs.pair_line.Tie as tie

@@ -3,7 +3,7 @@ use Prim.Native.Nat.{_-_}
 use native.Mathlib.Omega.{arith}
 use denote.Ref.{now}
 use lib.ListN.{length}
-use Rattle.summing.proofs.Decimals.{holds-size}
+use Rattle.summing.proofs.Fields.{holds-size}
 use Rattle.summing.proofs.Lines.{RoomLeft, room-first, room-none, room-more, room-left}
 use borrow.Author.Needs.{needs}
 use Rattle.summing.proofs.room_after.Statement.{statement}

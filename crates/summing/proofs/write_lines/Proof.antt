@@ -3,7 +3,7 @@ use Prim.Native.Nat.{_-_}
 use native.Mathlib.Omega.{arith}
 use denote.Ref.{now}
 use lib.ListN.{length}
-use Rattle.summing.proofs.Decimals.{holds-size, holds-part}
+use Rattle.summing.proofs.Fields.{holds-size, holds-part}
 use Rattle.summing.proofs.Lines.{Written, written-none, next-ends, written-more, as-many, written-all}
 use borrow.Author.Needs.{needs}
 use Rattle.summing.proofs.write_lines.Statement.{statement}
