@@ -73,7 +73,7 @@ pub field-at : (before bytes after : List ℕ) {at size : ℕ} → length before
 field-at before bytes after {at} {size} e f = rw (drop-at before (bytes ++ after) at e, take-at bytes after size f)
 
 -- a part of bytes is bytes
-taken-small : (size : ℕ) (l : List ℕ) → Bytes l → Bytes (take size l)
+pub taken-small : (size : ℕ) (l : List ℕ) → Bytes l → Bytes (take size l)
 taken-small zero l small place = omega arith
 taken-small (suc size) [] small place = omega arith
 taken-small (suc size) (byte ∷ bytes) small zero = small zero

@@ -14,3 +14,4 @@ pub mod Told
 pub mod Versions
 pub mod Rewriting
 pub mod Opening
+pub mod HeadWithin

@@ -4,7 +4,7 @@ use native.Mathlib.Omega.{arith}
 use mathlib.Core.Bool.{true, false}
 use mathlib.Core.List.{List, [], _∷_}
 use mathlib.Core.Option.{none}
-use mathlib.Core.Path.{_≡_, refl, ap, _∙_}
+use mathlib.Core.Path.{_≡_, refl, sym, ap, _∙_}
 use borrow.Author.Tests.{eq-eqb, le-leb, lt-ltb, leb-true, not-false}
 use lib.Dec.{leb}
 use lib.ListN.{length, take, drop, length-drop}
@@ -14,11 +14,13 @@ use Rattle.octets.proofs.Booleans.{both-true, neither}
 use Rattle.framing.proofs.Refusals.{not-refused}
 use Rattle.captures.specs.Numbers.{Bytes}
 use Rattle.captures.specs.Form.{newest, Record, boardLimit, idsAt, counterAt, boardsOf, wrongCount}
-use Rattle.captures.specs.Reading.{Reading, versionOf, boardCount, recordsAt, read, recordsOf, headRefusals, headRefusal, idsAs, idsIn, recordsIn}
+use Rattle.captures.specs.Reading.{Reading, versionOf, boardCount, recordsAt, read, recordsOf, headRefusals, headRefusal, idsAs, idsIn, recordsIn, openedOf}
 use Rattle.captures.specs.Writing.{wrongIds, everyInRange}
 use Rattle.captures.specs.Statements.{Within, countersFit, RewritesHold}
 use Rattle.captures.specs.declared.Version.{Version}
+use Rattle.captures.specs.declared.reading.Opened.the-variants as opened
 use Rattle.captures.proofs.Fields.{dropped-small, field-small}
+use Rattle.captures.proofs.Opening.{accepted-as}
 use Rattle.captures.proofs.Pieces.{inside}
 use Rattle.captures.proofs.Ranges.{records-within}
 use Rattle.captures.proofs.Readings.{of-readings}
@@ -85,3 +87,11 @@ rewrites-hold capture small right =
     (in-range (boardsOf (idsIn capture)) (recordsIn capture) (records-within capture))
     (rw right
     (counters-read version (boardCount version capture) (drop (recordsAt version capture) capture) (dropped-small (recordsAt version capture) capture small)))
+
+-- the IDs that stand where `open` says
+pub ids-same :
+    (capture : List ℕ) {version : Version} {boards ids records : ℕ} → openedOf capture ≡ opened.Capture version boards ids records → {size : ℕ} → size ≡ 16 * boards
+    → take size (drop ids capture) ≡ idsIn capture
+ids-same capture e sized =
+    let head = accepted-as capture e in
+    (λ i. take ((sized ∙ ap (λ (n : ℕ). 16 * n) (head .boards-told)) i) (drop (head .ids-told i) capture)) ∙ sym (ids-read capture (head .accepted))

@@ -112,6 +112,11 @@ joined (piece ∷ pieces) = piece ++ joined pieces
 abbrev pub longestHead : ℕ
 longestHead = idsAt newest + 16 * boardLimit newest
 
+-- the first piece has the head, or the capture ends with it
+unfoldable pub headWithin : List ℕ → List (List ℕ) → Type 0
+headWithin front [] = Unit {0}
+headWithin front (piece ∷ pieces) = longestHead ≤ length front
+
 -- however a capture is cut into pieces: its head is decided by a first one that is long enough, and the records are read in turn
 pub record InPieces (front : List ℕ) (pieces : List (List ℕ)) : Type 0 where
   pub head-told : openedOf (front ++ joined pieces) ≡ openedOf front

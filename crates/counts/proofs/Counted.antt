@@ -52,7 +52,7 @@ module _ (version : Version) (boards : ℕ) (rest : List ℕ) where
     in-place : Placed rest packet after
     in-place = placed version boards rest e
 
-    abbrev found : Record
+    abbrev pub found : Record
     found = recordOf index direction counter (partOf packet after rest)
 
     packet-part : take (packet - after) (drop (length rest - packet) rest) ≡ partOf packet after rest
@@ -63,7 +63,7 @@ module _ (version : Version) (boards : ℕ) (rest : List ℕ) where
         rw (le-leb after (length rest) (omega (arith, in-place .shorter)), le-leb 0 after (omega arith), sub-zero after)
         (sym (take-all after (drop (length rest - after) rest) (simp length-drop (omega (arith, in-place .shorter)))))
 
-    read-on : read version boards rest ≡ item found (read version boards (partOf after 0 rest))
+    pub read-on : read version boards rest ≡ item found (read version boards (partOf after 0 rest))
     read-on = read-by version boards rest e ∙ λ i. item (recordOf index direction counter (packet-part i)) (read version boards (rest-part i))
 
     pub same-on : {bytes before now : List ℕ} → Same version boards bytes before rest now → Same version boards bytes before (partOf after 0 rest) (countedOne now found)

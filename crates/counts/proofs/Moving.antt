@@ -5,7 +5,7 @@ use native.Mathlib.Omega.{arith}
 use mathlib.Core.Bool.{Bool, true, false}
 use mathlib.Core.List.{List, [], _∷_, _++_}
 use mathlib.Core.Path.{_≡_, refl, sym, ap, _∙_}
-use borrow.Author.Tests.{leb-true, leb-false}
+use borrow.Author.Tests.{le-leb, lt-leb, leb-true, leb-false}
 use lib.Dec.{leb}
 use lib.ListN.{length, take, drop, getD, set, length-set, length-drop, drop-of-length-le, take-append-drop}
 use lib.Seq.{take-suc, take-suc-set, getD-drop, drop-set-lt, drop-drop, drop-length, length-take-le}
@@ -15,7 +15,7 @@ use Rattle.captures.specs.Reading.{indexIn, directionIn, sizeIn, Reading, left,
 use Rattle.captures.specs.declared.Version.{Version}
 use Rattle.captures.proofs.Ranges.{ranges}
 use Rattle.captures.proofs.Readings.{of-readings}
-use Rattle.counts.specs.Counting.{endOf, leftOf, Counts, windowPart, CountsWindow}
+use Rattle.counts.specs.Counting.{endOf, leftOf, lastOf, Counts, windowPart, CountsWindow}
 use Rattle.counts.specs.Statements.{LeftShort}
 use Rattle.counts.specs.declared.counting.Ending.{Ending}
 use Rattle.counts.specs.declared.counting.Ending.the-variants.{Left, Wrong}
@@ -160,47 +160,52 @@ module _ (start end : ℕ) (window rest : List ℕ) (e : Ends (windowPart start 
       ∙ drop-of-length-le (take end window) {i = start + (length (windowPart start end window) - length rest)} (omega arith)
       ∙ sym (drop-of-length-le (take end window) {i = length (take end window) - length rest} (omega arith))
 
-  rest-stands : take (length rest) (drop (length (take end window) - length rest) window) ≡ rest
-  rest-stands =
-      let size : length (take end window) - (length (take end window) - length rest) ≡ length rest = omega (arith, rest-within) in
-      ap (λ (n : ℕ). take n (drop (length (take end window) - length rest) window)) (sym size)
-      ∙ sym (front-part (length (take end window) - length rest) end window)
-      ∙ sym (rest-by (leb start (length (take end window))) refl)
+  pub rest-last : rest ≡ lastOf (Left (length rest)) (take end window)
+  rest-last = rest-by (leb start (length (take end window))) refl ∙ rw (le-leb (length rest) (length (take end window)) rest-within)
 
--- what `count` answered of that part
-module _
-    (version : Version) (boards start end : ℕ) (window : List ℕ) {filled part counts after : List ℕ} {answer : Ending}
-    (front : filled ≡ take end window) (cut : part ≡ drop start filled) (done : Counts version boards part counts answer after)
-  where
-    abbrev rest : List ℕ
-    rest = leftOf (read version boards (windowPart start end window))
+-- what is left of that part: the last bytes, as its ending tells
+by-ending :
+    (version : Version) (boards start end : ℕ) (window : List ℕ) (ending : Ending) → endOf (read version boards (windowPart start end window)) ≡ ending
+    → lastOf ending (take end window) ≡ leftOf (read version boards (windowPart start end window))
+by-ending version boards start end window Wrong e = sym (left-none (read version boards (windowPart start end window)) e)
+by-ending version boards start end window (Left size) e =
+    let rest = leftOf (read version boards (windowPart start end window)) in
+    ap (λ (n : ℕ). lastOf (Left n) (take end window)) (sym (left-size (read version boards (windowPart start end window)) e))
+    ∙ sym (rest-last start end window rest (left-ends version boards (windowPart start end window)))
 
-    counted-part : Counts version boards (windowPart start end window) counts answer after
-    counted-part = rw (cut ∙ ap (drop start) front) at done
+pub last-left :
+    (version : Version) (boards start end : ℕ) (window : List ℕ)
+    → lastOf (endOf (read version boards (windowPart start end window))) (take end window) ≡ leftOf (read version boards (windowPart start end window))
+last-left version boards start end window = by-ending version boards start end window (endOf (read version boards (windowPart start end window))) refl
 
-    rest-ends : Ends (windowPart start end window) rest
-    rest-ends = left-ends version boards (windowPart start end window)
+-- what `keep` moves
+module _ (end : ℕ) (window : List ℕ) {filled : List ℕ} (front : filled ≡ take end window) {size : ℕ} where
+  pub none-last : length filled < size → window ≡ overwrite window 0 (lastOf (Left size) (take end window))
+  none-last h = rw (lt-leb size (length (take end window)) (omega (arith, ap length front)))
 
-    size-told : {size : ℕ} → answer ≡ Left size → length rest ≡ size
-    size-told e = left-size (read version boards (windowPart start end window)) (sym (counted-part .answered) ∙ e)
+  pub last-moved :
+      {moved : List ℕ} → size ≤ length filled → moved ≡ overwrite window 0 (take size (drop (length filled - size) window))
+      → moved ≡ overwrite window 0 (lastOf (Left size) (take end window))
+  last-moved h e =
+      let within : size ≤ length (take end window) = omega (arith, ap length front) in
+      let count : length (take end window) - (length (take end window) - size) ≡ size = omega arith in
+      let last : drop (length (take end window) - size) (take end window) ≡ lastOf (Left size) (take end window) = rw (le-leb size (length (take end window)) within) in
+      e
+      ∙ ap (overwrite window 0)
+      ((λ i. take (sym count i) (drop (length (front i) - size) window))
+      ∙ sym (front-part (length (take end window) - size) end window)
+      ∙ last)
 
-    pub left-within : {size : ℕ} → answer ≡ Left size → size ≤ length filled
-    left-within e = omega (arith, size-told e, ap length front, rest-within start end window rest rest-ends)
-
-    pub stopped : answer ≡ Wrong → CountsWindow version boards start end window counts answer after window
-    stopped e =
-        let nothing = left-none (read version boards (windowPart start end window)) (sym (counted-part .answered) ∙ e) in
-        record { counts = counted-part; kept = overwrite-none window ∙ ap (overwrite window 0) (sym nothing) }
-
-    pub kept-left :
-        {size : ℕ} {moved : List ℕ} → answer ≡ Left size → moved ≡ overwrite window 0 (take size (drop (length filled - size) window))
-        → CountsWindow version boards start end window counts (Left size) after moved
-    kept-left {size} {moved} e h =
-        let size-is = size-told e in
-        record {
-          counts = rw e at counted-part;
-          kept =
-              h
-              ∙ ap (overwrite window 0)
-              ((λ i. take (sym size-is i) (drop (length (front i) - sym size-is i) window)) ∙ rest-stands start end window rest rest-ends);
-        }
+-- what `count` answered of a part, and what was kept
+pub counts-and-keeps :
+    (version : Version) (boards start end : ℕ) (window : List ℕ) {filled part counts after moved : List ℕ} {answer : Ending} → filled ≡ take end window
+    → part ≡ drop start filled → Counts version boards part counts answer after → moved ≡ overwrite window 0 (lastOf answer (take end window))
+    → CountsWindow version boards start end window counts answer after moved
+counts-and-keeps version boards start end window {part} {counts} {after} {answer} front cut done kept =
+    let counted-part : Counts version boards (windowPart start end window) counts answer after = rw (cut ∙ ap (drop start) front) at done in
+    record {
+      counts = counted-part;
+      kept =
+          kept
+          ∙ ap (overwrite window 0) (ap (λ (e : Ending). lastOf e (take end window)) (counted-part .answered) ∙ last-left version boards start end window);
+    }

@@ -1,17 +1,18 @@
 -- The numbers of lists of refusals: each packet's is 0 to 10, and no refusal's is 0.
 use Prim.Native.Nat.{ℕ, _<_}
 use native.Mathlib.Omega.{arith}
-use mathlib.Core.Bool.{Bool, true, false, cond}
+use mathlib.Core.Bool.{Bool, true, false, cond, not}
 use mathlib.Core.List.{List, [], _∷_}
 use mathlib.Core.Option.{Option, none, some, Option·getD}
 use mathlib.Core.Path.{_≡_, refl, subst}
 use lib.Dec.{eqb}
+use lib.ListN.{length}
 use Rattle.framing.specs.Refusal.{Refusal, firstRefusal}
 use Rattle.framing.specs.Packet.{packetRefusals}
-use Rattle.captures.specs.Reading.{headRefusals, headRefusal}
+use Rattle.captures.specs.Reading.{Reading, left, wrong, item, wrongRecord, headRefusals, headRefusal}
 use Rattle.tool.specs.Response.{responseRefusals, anyResponseRefusals, anyResponseRefusal}
 use Rattle.counts.specs.Judging.{requestRefusals, anyRequestRefusals, anyRequestRefusal, judgedRequest, judgedResponse, judged}
-use Rattle.counts.specs.Counting.{numbersPerBoard}
+use Rattle.counts.specs.Counting.{numbersPerBoard, endOf, endingNumber}
 use Rattle.counts.specs.Statements.{NumbersBounded}
 
 -- of each number of a list
@@ -61,3 +62,14 @@ numbers-bounded direction packet = judged-by (eqb direction 1) (response-below p
 pub head-some : (capture : List ℕ) {number : ℕ} → headRefusal capture ≡ some number → 0 < number
 unfolding headRefusal headRefusals every
 head-some capture {number} e = refused-has (λ (n : ℕ). 0 < n) capture headRefusals (search arith) number e
+
+-- the number of an ending: 53 where a record is refused
+ended-by : (none-left : Bool) → _≡_ {A = ℕ} (cond none-left 0 53) (cond (not none-left) 53 0)
+ended-by true = refl
+ended-by false = refl
+
+pub ending-told : (r : Reading) → endingNumber (endOf r) ≡ cond (wrongRecord r) 53 0
+unfolding endOf wrongRecord
+ending-told (left bytes) = ended-by (eqb (length bytes) 0)
+ending-told wrong = refl
+ending-told (item r after) = ending-told after

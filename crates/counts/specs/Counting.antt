@@ -1,9 +1,9 @@
 -- How often each number occurs for each board.
-use Prim.Native.Nat.{ℕ, _+_, _*_}
+use Prim.Native.Nat.{ℕ, _+_, _-_, _*_}
 use mathlib.Core.Bool.{cond, _&&_}
 use mathlib.Core.List.{List, [], _∷_}
 use mathlib.Core.Path.{_≡_}
-use lib.Dec.{ltb, eqb}
+use lib.Dec.{leb, ltb, eqb}
 use lib.ListN.{length, take, drop, getD, set}
 use Rattle.octets.specs.Octets.{overwrite}
 use Rattle.captures.specs.Form.{Record}
@@ -58,6 +58,11 @@ unfoldable pub leftOf : Reading → List ℕ
 leftOf (left bytes) = bytes
 leftOf wrong = []
 leftOf (item r after) = leftOf after
+
+-- the last bytes, as many as are left; none where there are not so many
+abbrev pub lastOf : Ending → List ℕ → List ℕ
+lastOf (Left size) bytes = cond (leb size (length bytes)) (drop (length bytes - size) bytes) []
+lastOf Wrong bytes = []
 
 -- the number of the refusal, 0 for none, where no more bytes come
 abbrev pub endingNumber : Ending → ℕ

@@ -12,13 +12,13 @@ use Rattle.octets.specs.Octets.{overwrite}
 use Rattle.framing.specs.Refusal.{refusal, refusalOf, firstRefusal}
 use Rattle.framing.proofs.Refusals.{first-of-joined, first-of-part, refused-then, passed-then}
 use Rattle.captures.specs.Form.{newest, idsAt, headBytes, captureBytes}
-use Rattle.captures.specs.Reading.{Reading, read, wrongRecord, headRefusals, headRefusal, idsIn, openedOf}
+use Rattle.captures.specs.Reading.{Reading, read, wrongRecord, headRefusals, headRefusal, openedOf}
 use Rattle.captures.specs.Writing.{bufferAs, wrongIds, tooShort}
 use Rattle.captures.specs.declared.Version.{Version}
 use Rattle.captures.specs.declared.reading.Opened.the-variants as opened
 use Rattle.captures.proofs.Lists.{length-head}
 use Rattle.captures.proofs.Opening.{head-refused, accepted-as, reading-same, records-same}
-use Rattle.captures.proofs.Rewriting.{ids-read, ids-right}
+use Rattle.captures.proofs.Rewriting.{ids-right, ids-same}
 use Rattle.rewriting.specs.Rewriting.{recordsRead, bytesRead, rewritten, RewriteCall, rewriteCall, captureOf, rewriteRefusals, rewriteRefusal, rewrittenAs, Rewrites, fitted}
 use Rattle.rewriting.specs.declared.Fitted.{Fitted}
 use Rattle.rewriting.specs.declared.Fitted.the-variants as fits
@@ -56,20 +56,14 @@ module _ (buffer capture : List ℕ) where
     abbrev told : Reading
     told = read version boards (drop records capture)
 
-    -- the IDs that stand there
-    pub ids-same : take size (drop ids capture) ≡ idsIn capture
-    ids-same =
-        let head = accepted-as capture e in
-        (λ i. take ((sized ∙ ap (λ (n : ℕ). 16 * n) (head .boards-told)) i) (drop (head .ids-told i) capture)) ∙ sym (ids-read capture (head .accepted))
-
     abbrev bytes : List ℕ
     bytes = bytesRead (take size (drop ids capture)) told
 
     pub right-ids : wrongIds newest (take size (drop ids capture)) ≡ false
-    right-ids = ap (wrongIds newest) ids-same ∙ ids-right capture (accepted-as capture e .accepted)
+    right-ids = ap (wrongIds newest) (ids-same capture e sized) ∙ ids-right capture (accepted-as capture e .accepted)
 
     bytes-same : rewritten capture ≡ bytes
-    bytes-same = λ i. captureBytes newest (sym ids-same i) (records-same capture e i)
+    bytes-same = λ i. captureBytes newest (sym (ids-same capture e sized) i) (records-same capture e i)
 
     judged : rewriteRefusal (rewriteCall buffer capture) ≡ cond (tooShort buffer (rewritten capture)) (some 54) none
     judged = refusal-as (rewriteCall buffer capture) ∙ passed-then _ (accepted-as capture e .accepted)

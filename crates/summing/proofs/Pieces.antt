@@ -1,20 +1,19 @@
 -- A capture may be summed up in pieces.
 use Prim.Native.Nat.{ℕ, _≤_}
-use mathlib.Core.List.{List, [], _∷_, _++_, append-nil}
+use mathlib.Core.List.{List, _∷_, _++_}
 use mathlib.Core.Path.{_≡_, refl, sym, ap, _∙_}
 use lib.ListN.{length, drop}
-use lib.Seq.{drop-append-le}
 use Rattle.captures.specs.Reading.{Reading, left, wrong, item, read, recordsOf, recordsIn, openedOf}
-use Rattle.captures.specs.Statements.{joined}
+use Rattle.captures.specs.Statements.{joined, headWithin}
 use Rattle.captures.specs.declared.reading.Opened.{Opened}
 use Rattle.captures.specs.declared.reading.Opened.the-variants as opened
-use Rattle.captures.proofs.Opening.{accepted-as, records-same}
-use Rattle.captures.proofs.Pieces.{opened-front, inside}
+use Rattle.captures.proofs.HeadWithin.{opened-within, records-behind}
+use Rattle.captures.proofs.Opening.{records-same}
 use Rattle.counts.specs.Counting.{countLimit, counted, endOf, leftOf, endingNumber}
 use Rattle.counts.specs.Statements.{isWrong, after}
 use Rattle.counts.proofs.Pieces.{pieces-count}
 use Rattle.summing.specs.Text.{textOf, summaryOf}
-use Rattle.summing.specs.Statements.{progressNumber, progressText, textAs, headWithin, PiecesSummed}
+use Rattle.summing.specs.Statements.{progressNumber, progressText, textAs, PiecesSummed}
 use Rattle.summing.proofs.Summaries.{none-yet, summary-refused, summary-counted}
 
 -- the text of a reading, by its ending
@@ -24,22 +23,14 @@ number-after counts (left bytes) = refl
 number-after counts wrong = refl
 number-after counts (item r rest) = number-after counts rest
 
--- the head is that of the first piece
-opened-same : (front : List ℕ) (pieces : List (List ℕ)) → headWithin front pieces → openedOf (front ++ joined pieces) ≡ openedOf front
-unfolding headWithin joined
-opened-same front [] long = ap openedOf (append-nil front)
-opened-same front (piece ∷ pieces) long = opened-front front (piece ++ joined pieces) long
-
 module _ (front : List ℕ) (pieces : List (List ℕ)) (long : headWithin front pieces) where
   summed-by : (found : Opened) → openedOf front ≡ found → length (recordsIn (front ++ joined pieces)) ≤ countLimit → textAs found front pieces ≡ summaryOf (front ++ joined pieces)
   unfolding joined
-  summed-by (opened.Refused number) e few = sym (summary-refused (front ++ joined pieces) (opened-same front pieces long ∙ e))
+  summed-by (opened.Refused number) e few = sym (summary-refused (front ++ joined pieces) (opened-within front pieces long ∙ e))
   summed-by (opened.Capture version boards ids records) e few =
       let whole = front ++ joined pieces in
-      let told = accepted-as front e in
-      let told-whole : openedOf whole ≡ opened.Capture version boards ids records = opened-same front pieces long ∙ e in
-      let within : records ≤ length front = rw (told .records-told) (inside front (told .accepted)) in
-      let rest : drop records whole ≡ drop records front ++ joined pieces = drop-append-le records front (joined pieces) within in
+      let told-whole : openedOf whole ≡ opened.Capture version boards ids records = opened-within front pieces long ∙ e in
+      let rest : drop records whole ≡ drop records front ++ joined pieces = records-behind front (joined pieces) e in
       let few-read : length (recordsOf (read version boards (drop records whole))) ≤ countLimit = rw (records-same whole told-whole) at few in
       ap progressText (pieces-count version boards none-yet (drop records front ∷ pieces) ∙ ap (λ (l : List ℕ). after none-yet (read version boards l)) (sym rest))
       ∙ ap (textOf (counted none-yet (recordsOf (read version boards (drop records whole))))) (number-after none-yet (read version boards (drop records whole)))

@@ -1,16 +1,15 @@
 -- The text of a capture's counts is its summary.
 use Prim.Native.Nat.{ℕ, _+_, _*_, _/_, _%_, _<_, _≤_}
 use native.Mathlib.Omega.{arith}
-use mathlib.Core.Bool.{Bool, true, false, cond, not}
+use mathlib.Core.Bool.{Bool, true, false, cond}
 use mathlib.Core.List.{List, [], _++_}
 use mathlib.Core.Option.{none, some}
 use mathlib.Core.Path.{_≡_, refl, sym, ap, _∙_}
 use borrow.Author.Tests.{ne-eqb}
-use lib.Dec.{eqb}
 use lib.ListN.{length, drop, length-drop, length-replicate}
 use Rattle.framing.proofs.Refusals.{refused-then, passed-then}
 use Rattle.captures.specs.Form.{newest, Record, boardLimit}
-use Rattle.captures.specs.Reading.{versionOf, Reading, left, wrong, item, read, readingOf, recordsOf, wrongRecord, recordsAs, captureRefusal, openedOf}
+use Rattle.captures.specs.Reading.{versionOf, Reading, read, readingOf, recordsOf, wrongRecord, recordsAs, captureRefusal, openedOf}
 use Rattle.captures.proofs.Readings.{of-readings}
 use Rattle.captures.proofs.Opening.{head-refused, accepted-as, reading-same}
 use Rattle.captures.proofs.Told.{refusal-then}
@@ -22,7 +21,7 @@ use Rattle.counts.specs.declared.counting.Ending.{Ending}
 use Rattle.summing.specs.Text.{each, pairLine, recordLines, refusedAs, summaryOf, lineAt, linesOf, lastLine, textOf}
 use Rattle.counts.specs.Statements.{zeros}
 use Rattle.summing.proofs.Each.{each-same, each-nothing, each-board}
-use Rattle.counts.proofs.Numbers.{head-some}
+use Rattle.counts.proofs.Numbers.{head-some, ending-told}
 use Rattle.counts.proofs.Pairs.{length-counted, pairs-counted}
 
 -- a record takes a byte at the least
@@ -86,15 +85,12 @@ module _ (capture : List ℕ) where
   refused-shown e = last-refused e ∙ sym (summary-refused e)
 
 -- the last line is that of 53, where the reading ended in it
-left-last : (none-left : Bool) → lastLine (cond none-left 0 53) ≡ refusedAs (cond (not none-left) (some 53) none)
-left-last true = refl
-left-last false = refl
+last-by : (wrong : Bool) → lastLine (cond wrong 53 0) ≡ refusedAs (cond wrong (some 53) none)
+last-by true = refl
+last-by false = refl
 
 ending-last : (r : Reading) → lastLine (endingNumber (endOf r)) ≡ refusedAs (cond (wrongRecord r) (some 53) none)
-unfolding endOf wrongRecord
-ending-last (left bytes) = left-last (eqb (length bytes) 0)
-ending-last wrong = refl
-ending-last (item r after) = ending-last after
+ending-last r = ap lastLine (ending-told r) ∙ last-by (wrongRecord r)
 
 -- an accepted head, and the records after it
 pub summary-counted :

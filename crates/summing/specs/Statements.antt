@@ -7,7 +7,7 @@ use lib.Dec.{eqb}
 use lib.ListN.{length, take, drop}
 use Rattle.captures.specs.Form.{newest, boardLimit}
 use Rattle.captures.specs.Reading.{recordsIn, openedOf}
-use Rattle.captures.specs.Statements.{joined, longestHead}
+use Rattle.captures.specs.Statements.{joined, headWithin}
 use Rattle.captures.specs.declared.Version.{Version}
 use Rattle.captures.specs.declared.reading.Opened.{Opened}
 use Rattle.captures.specs.declared.reading.Opened.the-variants as opened
@@ -34,11 +34,6 @@ abbrev pub textAs : Opened → List ℕ → List (List ℕ) → List ℕ
 textAs (opened.Refused number) front pieces = refusedLine number
 textAs (opened.Capture version boards ids records) front pieces =
     progressText (allTaken version boards (start (zeros (boardLimit newest * numbersPerBoard))) (drop records front ∷ pieces))
-
--- the first piece has the head, or the capture ends with it
-unfoldable pub headWithin : List ℕ → List (List ℕ) → Type 0
-headWithin front [] = Unit {0}
-headWithin front (piece ∷ pieces) = longestHead ≤ length front
 
 -- the text of the pieces is the summary of the whole capture
 abbrev pub PiecesSummed : Type 0
