@@ -1,0 +1,4 @@
+pub mod Text
+pub mod RowText
+pub mod Exporting
+pub mod Statements

@@ -1,0 +1,9 @@
+pub mod HexDigits
+pub mod Counters
+pub mod Sizes
+pub mod Splits
+pub mod RowForms
+pub mod Headers
+pub mod NextRows
+pub mod Places
+pub mod ReadsTables
