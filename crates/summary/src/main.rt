@@ -1,13 +1,13 @@
 // Sums up one capture: a capture of any size on standard input, its summary on standard output.
-mod input;
+mod stream;
 
-use input::Counted;
 use libc::STDOUT_FILENO;
+use stream::Counted;
 use tool::listing::Listed;
 
 // Sums up the capture on standard input. Counts, window and text are lent.
 fn sum_up(pairs: &mut [u64], window: &mut [u8], text: &mut [u8]) {
-    let Counted::Until(refusal) = input::count(pairs, window) else {
+    let Counted::Until(refusal) = stream::count(pairs, window) else {
         os::fail(b"summary: standard input");
         return;
     };

@@ -1,9 +1,9 @@
--- `summary::input::count_records` meets its contract.
+-- `summary::stream::count_records` meets its contract.
 use mathlib.Core.Path.{_≡_}
 use lib.ListN.{length}
 use borrow.Author.Needs.{needs}
-use Rattle.summary.proofs.input.count_records.Statement.{statement}
-use Rattle.summary.proofs.input.count_records.Tie as tie
+use Rattle.summary.proofs.stream.count_records.Statement.{statement}
+use Rattle.summary.proofs.stream.count_records.Tie as tie
 
 abbrev Inv-loop : tie.InvT-loop
 Inv-loop pairs₀ window₀ records filled version boards start₀ end₀ turns₀ pairs window start end turns = (length pairs ≡ length pairs₀) × (length window ≡ length window₀)

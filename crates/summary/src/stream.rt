@@ -2,7 +2,7 @@
 use captures::Version;
 use captures::reading::Opened;
 use counts::counting::Ending;
-use libc::STDIN_FILENO;
+use input::Filled;
 
 // How the capture ends.
 pub(crate) enum Counted {
@@ -10,39 +10,6 @@ pub(crate) enum Counted {
     Until(u8),
     // Standard input could not be read to its end.
     ReadFailed,
-}
-
-enum Filled {
-    // The window holds so many bytes.
-    Until(usize),
-    ReadFailed,
-}
-
-// Reads once behind the first `held` bytes of the window.
-fn fill(window: &mut [u8], held: usize) -> Filled {
-    if window.len() < held {
-        return Filled::Until(held);
-    }
-    let got = libc::read(STDIN_FILENO, &mut window[held..]);
-    if got < 0 {
-        return Filled::ReadFailed;
-    }
-    Filled::Until(held + io::count(got, &window[held..]))
-}
-
-// Reads until the window holds the longest head, or the input ends.
-fn fill_head(window: &mut [u8]) -> Filled {
-    let mut held: usize = 0;
-    while held < captures::LONGEST_HEAD {
-        let Filled::Until(filled) = fill(window, held) else {
-            return Filled::ReadFailed;
-        };
-        if filled <= held {
-            return Filled::Until(held);
-        }
-        held = filled;
-    }
-    Filled::Until(held)
 }
 
 // Counts the records that stand in the window from `records` to `filled`, and then those that are read behind the bytes that are left.
@@ -63,7 +30,7 @@ fn count_records(
         let Ending::Left(left) = ending else {
             return Counted::Until(counts::counting::ending_number(ending));
         };
-        let Filled::Until(until) = fill(window, left) else {
+        let Filled::Until(until) = input::fill(window, left) else {
             return Counted::ReadFailed;
         };
         if until <= left {
@@ -78,7 +45,7 @@ fn count_records(
 
 // Counts the records of the capture on standard input.
 pub(crate) fn count(pairs: &mut [u64], window: &mut [u8]) -> Counted {
-    let Filled::Until(filled) = fill_head(window) else {
+    let Filled::Until(filled) = input::fill_until(window, captures::LONGEST_HEAD) else {
         return Counted::ReadFailed;
     };
     match captures::reading::open(octets::first_bytes(window, filled)) {
