@@ -1,11 +1,12 @@
 /*
- * Udgornwy: the controller board of a Micra 100 WiFi unit, the tool that writes its requests and reads its responses, and captures of their
- * packets.
+ * Udgornwy: the controller board of a Micra 100 WiFi unit, the tool that writes its requests and reads its responses, captures of their
+ * packets, and tables of what captures report.
  *
- * For C (C11) and C++ (C++11). Link target/staticlib/libfirmware.a, which `rt staticlib firmware` writes; with --gc-sections only what
- * is called comes along. It allocates nothing, keeps nothing between calls and calls nothing but memcpy, memmove and memset.
+ * For C (C11) and C++ (C++11). Link target/staticlib/libfirmware.a, which `rt staticlib firmware` writes, and for the calls on captures
+ * and tables target/staticlib/libdataset.a, which `rt staticlib dataset` writes; with --gc-sections only what is called comes along. They allocate
+ * nothing, keep nothing between calls and call nothing but memcpy, memmove and memset.
  *
- * The archive is for x86-64 alone, since the kit compiles for nothing else. A board of another kind needs the toolchain to grow first.
+ * The archives are for x86-64 alone, since the kit compiles for nothing else. A board of another kind needs the toolchain to grow first.
  *
  * For every call:
  *  - A slice is a pointer and a count. The pointer must not be null, also where the count is 0. What a call writes to, record or buffer,
@@ -194,7 +195,7 @@ uint16_t udgornwy_read(const uint8_t *packet, size_t packet_length, const uint8_
  */
 udgornwy_reply udgornwy_list(uint8_t *text, size_t text_length, const uint8_t *packet, size_t packet_length);
 
-/* ---- Captures ---- */
+/* ---- Captures: the calls of libdataset.a ---- */
 
 /*
  * A capture keeps packets as they were sent, damaged ones too: a head with the IDs of its boards, and then records, each with one packet.
@@ -245,7 +246,6 @@ UDGORNWY_ASSERT(offsetof(udgornwy_capture_record, index) == 2, "the index follow
 UDGORNWY_ASSERT(offsetof(udgornwy_capture_record, counter) == 4, "the counter follows the index");
 UDGORNWY_ASSERT(offsetof(udgornwy_capture_record, packet) == 8, "a count of bytes follows the counter");
 UDGORNWY_ASSERT(sizeof(udgornwy_capture_record) == 8 + 2 * sizeof(size_t), "nothing follows the counts");
-#undef UDGORNWY_ASSERT
 
 /*
  * Opens a capture: all of its bytes, or the first 16,007 or more.
@@ -345,6 +345,149 @@ udgornwy_reply udgornwy_count_window(uint64_t *counts, size_t counts_count, uint
  *    1  the text does not fit
  */
 udgornwy_reply udgornwy_show_counts(uint8_t *text, size_t text_length, const uint64_t *counts, size_t counts_count, uint8_t refusal);
+
+/* ---- Tables: more calls of libdataset.a ---- */
+
+/*
+ * A table has what the accepted responses of a capture report, as text for a spreadsheet (RFC 4180): a header, and a line for each report in
+ * order, of five fields in quotes. Lines end in CR LF; there is no byte 0 at the end.
+ *
+ *   "board","direction","counter","number","value"
+ *   "x00000000000000000000000000000000","1","1003","0x0002","x03"
+ *
+ * The board is the capture's, by its index. ID and value have an x and two uppercase digits for each byte, the value of an unknown parameter has the x
+ * alone. The board's password is not in it, but a report of 0x0096 holds the one of the Wi-Fi network.
+ */
+enum {
+    UDGORNWY_TABLE_HEADER = 48,    /* bytes of the header */
+    UDGORNWY_TEXT_PER_BYTE = 40,   /* of rows, for each byte of records: always enough */
+    UDGORNWY_LONGEST_VALUE = 255,  /* bytes of a value, each with two digits */
+    UDGORNWY_ROW = 0,              /* the kinds of what stands first: a row */
+    UDGORNWY_ROWS_END = 1,         /* nothing, no line is left */
+    UDGORNWY_ROW_REFUSED = 2       /* a line that is refused */
+};
+
+/* What the export of a capture comes to. */
+typedef struct {
+    uint16_t refusal; /* 0: not refused; else all behind it is 0 */
+    uint16_t capture; /* the refusal of the capture, 50 to 53, 0 for none */
+    size_t length;    /* of the table */
+    uint64_t refused; /* so many responses are refused and left out */
+} udgornwy_exported;
+
+/* What the export of a part of a capture comes to. */
+typedef struct {
+    uint16_t refusal; /* 0: not refused; else all behind it is 0 */
+    uint16_t ending;  /* 53: a record with a field outside its range; else 0 */
+    size_t length;    /* of the rows */
+    uint64_t refused; /* so many responses are refused so far */
+    size_t left;      /* so many bytes, the start of a record, stand at the window's start */
+} udgornwy_exported_rows;
+
+/* The header of a table. */
+typedef struct {
+    uint16_t refusal; /* 0: not refused */
+    uint64_t line;    /* the number of the next line; where refused, of the header, 1 */
+    size_t rest;      /* so many bytes are left after the header; 0 where refused */
+} udgornwy_opened_table;
+
+/* What stands first in what is left of a table. */
+typedef struct {
+    uint8_t kind;      /* with any other than UDGORNWY_ROW all behind it is 0, but for the refusal and its line */
+    uint8_t page;      /* the parameter's number: its high byte, */
+    uint8_t low;       /* and its low byte */
+    uint16_t refusal;
+    uint32_t counter;  /* milliseconds */
+    uint64_t line;     /* the number of the next line; where refused, of the line at fault */
+    size_t board;      /* so many bytes are left where the 32 digits of the ID start, */
+    size_t value;      /* where the digits of the value start, */
+    size_t value_end;  /* and where they end: there are none for an unknown parameter */
+    size_t rest;       /* so many are left after the line, where the next starts */
+} udgornwy_table_row;
+
+UDGORNWY_ASSERT(offsetof(udgornwy_exported, capture) == 2, "the capture's refusal follows the call's");
+UDGORNWY_ASSERT(offsetof(udgornwy_exported, length) == sizeof(size_t), "both refusals take the room of a length");
+UDGORNWY_ASSERT(offsetof(udgornwy_exported, refused) == 2 * sizeof(size_t), "a count follows the length");
+UDGORNWY_ASSERT(sizeof(udgornwy_exported) == 2 * sizeof(size_t) + 8, "nothing follows the count");
+UDGORNWY_ASSERT(offsetof(udgornwy_exported_rows, ending) == 2, "the ending follows the refusal");
+UDGORNWY_ASSERT(offsetof(udgornwy_exported_rows, length) == sizeof(size_t), "refusal and ending take the room of a length");
+UDGORNWY_ASSERT(offsetof(udgornwy_exported_rows, refused) == 2 * sizeof(size_t), "a count follows the length");
+UDGORNWY_ASSERT(offsetof(udgornwy_exported_rows, left) == 2 * sizeof(size_t) + 8, "what is left follows the count");
+UDGORNWY_ASSERT(sizeof(udgornwy_exported_rows) == 3 * sizeof(size_t) + 8, "nothing follows what is left");
+UDGORNWY_ASSERT(offsetof(udgornwy_opened_table, line) == 8, "the refusal takes the room of a line's number");
+UDGORNWY_ASSERT(offsetof(udgornwy_opened_table, rest) == 16, "a count of bytes follows the line's number");
+UDGORNWY_ASSERT(sizeof(udgornwy_opened_table) == 16 + sizeof(size_t), "nothing follows the count");
+UDGORNWY_ASSERT(offsetof(udgornwy_table_row, page) == 1, "the page follows the kind");
+UDGORNWY_ASSERT(offsetof(udgornwy_table_row, low) == 2, "the low byte follows the page");
+UDGORNWY_ASSERT(offsetof(udgornwy_table_row, refusal) == 4, "the refusal stands at the next even place");
+UDGORNWY_ASSERT(offsetof(udgornwy_table_row, counter) == 8, "the counter follows the refusal");
+UDGORNWY_ASSERT(offsetof(udgornwy_table_row, line) == 16, "the line's number stands at the next place that 8 divides");
+UDGORNWY_ASSERT(offsetof(udgornwy_table_row, board) == 24, "a count of bytes follows the line's number");
+UDGORNWY_ASSERT(sizeof(udgornwy_table_row) == 24 + 4 * sizeof(size_t), "nothing follows the counts");
+#undef UDGORNWY_ASSERT
+
+/*
+ * Writes the header of a table.
+ * Refusal:
+ *   54  the buffer has under 48 bytes
+ */
+udgornwy_reply udgornwy_table_header(uint8_t *buffer, size_t buffer_length);
+
+/*
+ * Writes the table of a whole capture. Of one that is refused with 53 it has what stands before the fault, of one that is refused with 50 to 52
+ * the header alone; `capture` says so. Requests are left out.
+ * Refusal:
+ *   54  the buffer is shorter than the table; 48 + 40 * capture_length bytes are enough
+ */
+udgornwy_exported udgornwy_export_table(uint8_t *buffer, size_t buffer_length, const uint8_t *capture, size_t capture_length);
+
+/*
+ * To write the table of a capture of any length through a window of 16,007 bytes or more, with a text of 40 times as many:
+ *  1. Write the header with udgornwy_table_header.
+ *  2. Read until the window has 16,007 bytes or the capture ends, and open what was read. Where that is refused, go to 5 with that number.
+ *     Keep a copy of the 16 * `boards` bytes from `ids` on: the window is read into again.
+ *  3. Write rows with udgornwy_export_window, from `records` to the end of what was read, with 0 responses refused before. Where its
+ *     `ending` is 53, go to 5 with that.
+ *  4. Its `left` bytes stand at the window's start. Read more bytes behind them, and do 3 again, from 0 on, with its `refused`. Where no more
+ *     come, go to 5 with 53 if any are left, else with 0.
+ *  5. The last `refused` counts the responses that are left out, and the number is the capture's refusal, 0 for none.
+ */
+
+/*
+ * Writes the rows of the records of a capture with these IDs, of this version and of so many boards, that stand in the window from start to
+ * end, or to the window's end where that comes first. The bytes left, the start of a record, are moved to the window's start. `refused` responses
+ * were refused before; a full count stays.
+ * Refusals:
+ *   51  the version is neither 1 nor 2
+ *   54  the text is shorter than 40 bytes for each byte from start to end
+ */
+udgornwy_exported_rows udgornwy_export_window(uint8_t *text, size_t text_length, uint8_t *window, size_t window_length, size_t start, size_t end,
+                                              const uint8_t *ids, size_t ids_length, uint16_t version, uint16_t boards, uint64_t refused);
+
+/*
+ * Reads the header of a table: all of its bytes are given.
+ * Refusals, at line 1:
+ *   60  the header differs, or is missing
+ *   61  no CR LF ends it
+ */
+udgornwy_opened_table udgornwy_open_table(const uint8_t *text, size_t text_length);
+
+/*
+ * Reads the first row of what is left of a table, whose line has this number: at first all but the header, by its `rest` and its `line`, and then
+ * the last `rest` bytes with the next line's number again and again.
+ * Refusals:
+ *   61  a field is not in quotes, or no CR LF ends the line
+ *   62  the line has not five fields
+ *   63  a field is outside its form, a counter over 32 bits, or a value over 255 bytes
+ */
+udgornwy_table_row udgornwy_next_row(const uint8_t *text, size_t text_length, uint64_t line);
+
+/*
+ * Writes the bytes of pairs of uppercase digits, as those of an ID or of a value.
+ * Refusal:
+ *   63  a byte is none of 0-9, A-F, their count is odd, or the buffer is shorter than half of it
+ */
+udgornwy_reply udgornwy_read_hex(uint8_t *bytes, size_t bytes_length, const uint8_t *digits, size_t digits_length);
 
 #ifdef __cplusplus
 }

@@ -1,6 +1,7 @@
 //! The functions of include/udgornwy.h, each behind one safe function.
 
 pub mod captures;
+pub mod tables;
 
 use crate::refusal::Refusal;
 

@@ -28,7 +28,7 @@ pub record WritesInNumbers (call : WriteCall) (reply : Reply) (after : List ℕ)
   pub answered : reply ≡ writtenReply (writtenAs (writeRefusal call) call)
   pub held : after ≡ bufferAs (writeRefusal call) call
 
--- the contract of `udgornwy_list` and of `udgornwy_show_counts`: the text is in the first bytes, or the buffer is as it was
+-- the contract of `udgornwy_list`: the text is in the first bytes, or the buffer is as it was
 pub record ListsInNumbers (text buffer : List ℕ) (reply : Reply) (after : List ℕ) : Type 0 where
   pub answered : reply ≡ listedReply (cond (fits buffer 0 text) (listed.Length (length text)) listed.NoRoom)
   pub held : after ≡ cond (fits buffer 0 text) (overwrite buffer 0 text) buffer

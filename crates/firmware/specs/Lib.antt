@@ -2,5 +2,4 @@ pub mod Reply
 pub mod Controller
 pub mod Client
 pub mod Packet
-pub mod Captures
 pub mod Exported

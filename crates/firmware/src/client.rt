@@ -4,7 +4,7 @@ use tool::listing::Listed;
 use tool::request::Written;
 use tool::response::Response;
 ghost use mathlib.Core.Path.{_≡_};
-ghost use Rattle.firmware.specs.Client.{listedReply, WritesInNumbers, ListsInNumbers};
+ghost use Rattle.firmware.specs.Client.{WritesInNumbers, ListsInNumbers};
 ghost use Rattle.tool.specs.Listing.{listing};
 ghost use Rattle.tool.specs.Request.{writeCall};
 ghost use Rattle.tool.specs.Response.{readCall, responseOf, refusedNumber};
@@ -42,23 +42,16 @@ pub extern "C" fn udgornwy_read(packet: &[u8], id: &[u8], password: &[u8]) -> u1
     }
 }
 
-// Refusal 1: the text does not fit.
-pub(crate) fn listed_reply(listed: Listed) -> Reply
-    ensures { λ r. ⌜ r ≡ listedReply listed ⌝ }
+// Lists a response in the first bytes of `text`. Refusal 1: the listing does not fit.
+#[no_mangle]
+pub extern "C" fn udgornwy_list(text: &mut [u8], packet: &[u8]) -> Reply
+    ensures { λ r. ⌜ ListsInNumbers (listing (now (packet .entry))) (now (text .entry)) r (now (text .exit)) ⌝ }
 {
-    match listed {
+    match tool::listing::list(text, packet) {
         Listed::Length(length) => Reply { refusal: 0, length },
         Listed::NoRoom => Reply {
             refusal: 1,
             length: 0,
         },
     }
-}
-
-// Lists a response in the first bytes of `text`.
-#[no_mangle]
-pub extern "C" fn udgornwy_list(text: &mut [u8], packet: &[u8]) -> Reply
-    ensures { λ r. ⌜ ListsInNumbers (listing (now (packet .entry))) (now (text .entry)) r (now (text .exit)) ⌝ }
-{
-    listed_reply(tool::listing::list(text, packet))
 }
