@@ -4,6 +4,7 @@ use crate::capture_calls;
 use crate::output;
 use crate::record_calls;
 use crate::slices;
+use crate::table_calls;
 use crate::tool_calls;
 use model::Board;
 
@@ -60,6 +61,7 @@ fn inspect(board: Board, name: &[u8], left: &[u8], text: &mut [u8], at: usize) -
     call_on_capture(name, left, text, at)
 }
 
+// Makes a call on a capture or a table.
 fn call_on_capture(name: &[u8], left: &[u8], text: &mut [u8], at: usize) -> usize {
     if octets::equal(name, b"capread") {
         return capture_calls::read(left, text, at);
@@ -72,6 +74,12 @@ fn call_on_capture(name: &[u8], left: &[u8], text: &mut [u8], at: usize) -> usiz
     }
     if octets::equal(name, b"rewrite") {
         return capture_calls::rewrite(left, text, at);
+    }
+    if octets::equal(name, b"export") {
+        return capture_calls::export(left, text, at);
+    }
+    if octets::equal(name, b"import") {
+        return table_calls::import(left, text, at);
     }
     output::put_bad(text, at)
 }
@@ -97,9 +105,8 @@ pub(crate) fn answer(step: Step, line: &[u8], text: &mut [u8]) -> Step {
         text,
     );
     let board = done.board;
-    let ended = output::put(text, done.at, b"\n");
     Step {
         board,
-        at: output::ready(text, ended),
+        at: output::put(text, done.at, b"\n"),
     }
 }

@@ -1,4 +1,4 @@
-// The calls on captures: capread, capwrite, summary, rewrite.
+// The calls on captures: capread, capwrite, summary, rewrite, export.
 use crate::capture_lists;
 use crate::fields;
 use crate::fields::Decimal;
@@ -7,6 +7,7 @@ use crate::hex;
 use crate::hex::Decoded;
 use crate::output;
 use crate::slices;
+use crate::table_calls;
 use captures::Version;
 use captures::reading::NextRecord;
 use captures::reading::Opened;
@@ -16,12 +17,6 @@ use tool::listing::Listed;
 ghost use mathlib.Core.Path.{_≡_};
 ghost use lib.ListN.{length};
 ghost use Rattle.summing.specs.Text.{longestText};
-
-// The refusal of a capture, behind what was read of it.
-fn put_ending(text: &mut [u8], at: usize, number: u8) -> usize {
-    let start = output::put(text, at, b" ");
-    output::put_refused(text, start, number)
-}
 
 fn put_ids(text: &mut [u8], at: usize, ids: &[u8]) -> usize {
     let mut end = at;
@@ -57,8 +52,8 @@ fn put_records(text: &mut [u8], at: usize, records: &[u8], version: Version, boa
     loop {
         match captures::reading::next_record(left, version, boards) {
             NextRecord::End => return end,
-            NextRecord::Cut => return put_ending(text, end, 53),
-            NextRecord::Wrong => return put_ending(text, end, 53),
+            NextRecord::Cut => return output::put_ending(text, end, 53),
+            NextRecord::Wrong => return output::put_ending(text, end, 53),
             NextRecord::Record {
                 index,
                 direction,
@@ -91,7 +86,7 @@ fn put_capture(text: &mut [u8], at: usize, capture: &[u8]) -> usize {
     match captures::reading::open(capture) {
         Opened::Refused(number) => {
             let end = put_version(text, at, version_of_refused(capture, number) as u64);
-            put_ending(text, end, number)
+            output::put_ending(text, end, number)
         }
         Opened::Capture {
             version,
@@ -175,7 +170,7 @@ fn put_rewritten(text: &mut [u8], at: usize, rewritten: Rewritten, buffer: &[u8]
         Rewritten::Whole(length) => put_written(text, at, Written::Length(length), buffer),
         Rewritten::Part(length) => {
             let end = put_written(text, at, Written::Length(length), buffer);
-            put_ending(text, end, 53)
+            output::put_ending(text, end, 53)
         }
     }
 }
@@ -194,6 +189,7 @@ fn rewrite_capture(left: &[u8], text: &mut [u8], at: usize, buffer: &mut [u8]) -
 enum Call {
     Write,
     Rewrite,
+    Export,
 }
 
 // Makes a call with the first ROOM bytes of a lent buffer.
@@ -208,6 +204,7 @@ fn call_within(call: Call, left: &[u8], text: &mut [u8], at: usize, buffer: &mut
     match call {
         Call::Write => write_capture(rest, text, at, &mut buffer[0..room]),
         Call::Rewrite => rewrite_capture(rest, text, at, &mut buffer[0..room]),
+        Call::Export => table_calls::export_capture(rest, text, at, &mut buffer[0..room]),
     }
 }
 
@@ -224,6 +221,11 @@ pub(crate) fn write(left: &[u8], text: &mut [u8], at: usize) -> usize {
 // rewrite ROOM CAPTURE
 pub(crate) fn rewrite(left: &[u8], text: &mut [u8], at: usize) -> usize {
     call_with_buffer(Call::Rewrite, left, text, at)
+}
+
+// export ROOM CAPTURE
+pub(crate) fn export(left: &[u8], text: &mut [u8], at: usize) -> usize {
+    call_with_buffer(Call::Export, left, text, at)
 }
 
 // Room for the lines of a summary. The `ensures` gives only the length, as in `hex::room`.

@@ -10,11 +10,12 @@ mod output;
 mod record_calls;
 mod schedule_entries;
 mod slices;
+mod table_calls;
 mod tool_calls;
 
 fn main() {
     // Room for a line and its end.
     let mut input = [0u8; lines::LONGEST + 1];
-    let mut text = [0u8; 2 * output::LONGEST];
+    let mut text = [0u8; output::ROOM];
     lines::replay(&mut input, &mut text);
 }

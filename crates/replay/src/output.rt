@@ -1,24 +1,40 @@
-// The text of the answers. Each function puts its text into `text` from `at` on and says where it ends; what has no room is
-// dropped, and `ready` sees to it that the longest answer has room.
-use crate::lines;
+// The text of the answers. Each function puts its text into `text` from `at` on and says where it ends. Where it has no room, what was
+// put before is written out first: an answer may be longer than `text`, as that of a table of up to 1,048,576 bytes is.
 use libc::STDOUT_FILENO;
 
-// No answer is longer: of all fields a record of a capture grows most, from eight characters, with the space before it, to eighteen.
-pub(crate) const LONGEST: usize = lines::LONGEST / 8 * 18;
+// How long `text` is: longer than any bytes that are put at once, of which a value of a table has most, 510.
+pub(crate) const ROOM: usize = 65536;
 
 // What each byte of a lent buffer is before the call.
 pub(crate) const FILLER: u8 = 0xA5;
 
+// Writes out what was put into `text`.
+pub(crate) fn flush(text: &[u8], at: usize) {
+    io::write_all(STDOUT_FILENO, octets::first_bytes(text, at));
+}
+
+// Where so many bytes go, once there is room for them.
+fn ready(text: &[u8], at: usize, count: usize) -> usize {
+    if at <= text.len() {
+        if count <= text.len() - at {
+            return at;
+        }
+    }
+    flush(text, at);
+    0
+}
+
 pub(crate) fn put(text: &mut [u8], at: usize, bytes: &[u8]) -> usize {
-    if text.len() < at {
-        return at;
+    let start = ready(text, at, bytes.len());
+    if text.len() < start {
+        return start;
     }
-    let room = text.len() - at;
+    let room = text.len() - start;
     if room < bytes.len() {
-        return at;
+        return start;
     }
-    octets::overwrite(text, at, bytes);
-    at + bytes.len()
+    octets::overwrite(text, start, bytes);
+    start + bytes.len()
 }
 
 fn digit(value: u8) -> u8 {
@@ -80,27 +96,33 @@ pub(crate) fn put_decimal(text: &mut [u8], at: usize, mark: &[u8], number: u64) 
     put(text, start, &digits[..count])
 }
 
-// A parameter number, before its value.
-fn put_name(text: &mut [u8], at: usize, page: u8, low: u8) -> usize {
+// A mark, and a parameter number behind it, before its value.
+pub(crate) fn put_name(text: &mut [u8], at: usize, mark: &[u8], page: u8, low: u8) -> usize {
     let number = [page, low];
-    let spaced = put(text, at, b" ");
-    let start = put_hex(text, spaced, &number);
-    put(text, start, b"=")
+    let start = put(text, at, mark);
+    let end = put_hex(text, start, &number);
+    put(text, end, b"=")
 }
 
 // A parameter and its value.
 pub(crate) fn put_held(text: &mut [u8], at: usize, page: u8, low: u8, value: &[u8]) -> usize {
-    let end = put_name(text, at, page, low);
+    let end = put_name(text, at, b" ", page, low);
     put_field(text, end, value)
 }
 
 pub(crate) fn put_unknown(text: &mut [u8], at: usize, page: u8, low: u8) -> usize {
-    let end = put_name(text, at, page, low);
+    let end = put_name(text, at, b" ", page, low);
     put(text, end, b"unknown")
 }
 
 pub(crate) fn put_refused(text: &mut [u8], at: usize, number: u8) -> usize {
     put_decimal(text, at, b"refused ", number as u64)
+}
+
+// The refusal of what was read up to there.
+pub(crate) fn put_ending(text: &mut [u8], at: usize, number: u8) -> usize {
+    let start = put(text, at, b" ");
+    put_refused(text, start, number)
 }
 
 pub(crate) fn put_bad(text: &mut [u8], at: usize) -> usize {
@@ -163,20 +185,4 @@ pub(crate) fn put_written(
     let start = put(text, at, name);
     let end = put_hex(text, start, octets::first_bytes(buffer, length));
     put_dirty(text, end, octets::bytes_after(buffer, length))
-}
-
-// Writes out what was put into `text`.
-pub(crate) fn flush(text: &[u8], at: usize) {
-    io::write_all(STDOUT_FILENO, octets::first_bytes(text, at));
-}
-
-// Where the next answer goes, once there is room for it.
-pub(crate) fn ready(text: &[u8], at: usize) -> usize {
-    if at <= text.len() {
-        if LONGEST <= text.len() - at {
-            return at;
-        }
-    }
-    flush(text, at);
-    0
 }

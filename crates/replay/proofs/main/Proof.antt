@@ -10,7 +10,7 @@ slice-aggregate-replay : tie.Need-slice-aggregate-replay
 slice-aggregate-replay c = sym (length-replicate {0} {A = ℕ} 65537 0)
 
 slice-aggregate-replay-2 : tie.Need-slice-aggregate-replay-2
-slice-aggregate-replay-2 c = sym (length-replicate {0} {A = ℕ} 294912 0)
+slice-aggregate-replay-2 c = sym (length-replicate {0} {A = ℕ} 65536 0)
 
 replay-requires : tie.Need-replay-requires
 replay-requires c κs = search needs
