@@ -9,7 +9,7 @@ use crate::schedule;
 
 /// The longest buffer that a call of board or tool may ask for.
 pub const LONGEST_BUFFER: usize = 1024;
-/// The longest buffer for a capture.
+/// The longest buffer for a capture or a table.
 pub const MOST_ROOM: usize = 1_048_576;
 
 /// One call of the list.
@@ -70,6 +70,13 @@ pub enum Call {
     Rewrite {
         room: usize,
         capture: Vec<u8>,
+    },
+    Export {
+        room: usize,
+        capture: Vec<u8>,
+    },
+    Import {
+        table: Vec<u8>,
     },
 }
 
@@ -132,6 +139,13 @@ fn parse_capture_call(fields: &[&str]) -> Option<Call> {
         ["rewrite", room, capture] => Some(Call::Rewrite {
             room: parse_decimal(room, MOST_ROOM)?,
             capture: hex::parse_field(capture)?,
+        }),
+        ["export", room, capture] => Some(Call::Export {
+            room: parse_decimal(room, MOST_ROOM)?,
+            capture: hex::parse_field(capture)?,
+        }),
+        ["import", table] => Some(Call::Import {
+            table: hex::parse_field(table)?,
         }),
         _ => None,
     }
@@ -203,7 +217,7 @@ fn parse_command(field: &str) -> Option<Command> {
 }
 
 /// Decimal digits without sign or leading zero, at most `limit`.
-fn parse_decimal(field: &str, limit: usize) -> Option<usize> {
+pub fn parse_decimal(field: &str, limit: usize) -> Option<usize> {
     let digits_only = field.bytes().all(|byte| byte.is_ascii_digit());
     let leading_zero = field.len() > 1 && field.starts_with('0');
     if !digits_only || leading_zero {
@@ -269,6 +283,10 @@ fn write_capture_call(output: &mut fmt::Formatter, call: &Call) -> fmt::Result {
         Call::Rewrite { room, capture } => {
             write!(output, "rewrite {room} {}", hex::field(capture))
         }
+        Call::Export { room, capture } => {
+            write!(output, "export {room} {}", hex::field(capture))
+        }
+        Call::Import { table } => write!(output, "import {}", hex::field(table)),
         poke => write_poke(output, poke),
     }
 }
@@ -357,6 +375,10 @@ mod tests {
             "summary -",
             "rewrite 0 -",
             "rewrite 1048576 564C47",
+            "export 0 -",
+            "export 1048576 564C47",
+            "import -",
+            "import 22",
         ] {
             assert_eq!(parse(line).unwrap().to_string(), line);
         }
@@ -393,6 +415,12 @@ mod tests {
             "rewrite -",
             "rewrite 0 - -",
             "rewrite 1048577 -",
+            "export -",
+            "export 0 - -",
+            "export 1048577 -",
+            "import",
+            "import 0 -",
+            "import 2",
         ] {
             assert_eq!(parse(line), None, "{line}");
         }

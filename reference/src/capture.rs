@@ -191,13 +191,11 @@ pub fn rewrite(buffer: &mut [u8], capture: &[u8]) -> Result<Rewritten, Refusal> 
     Ok(Rewritten { length, refusal })
 }
 
-/// Puts a capture at the front of the buffer and gives its length. Checks 54.
-fn put(buffer: &mut [u8], capture: &[u8]) -> Result<usize, Refusal> {
-    let front = buffer.get_mut(..capture.len());
-    front
-        .ok_or(Refusal::CaptureBuffer)?
-        .copy_from_slice(capture);
-    Ok(capture.len())
+/// Puts bytes at the front of the buffer and gives their number. Checks 54.
+pub fn put(buffer: &mut [u8], bytes: &[u8]) -> Result<usize, Refusal> {
+    let front = buffer.get_mut(..bytes.len());
+    front.ok_or(Refusal::CaptureBuffer)?.copy_from_slice(bytes);
+    Ok(bytes.len())
 }
 
 /// The bytes of a capture of this version; ranges are the caller's concern.

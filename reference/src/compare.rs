@@ -40,7 +40,8 @@ impl<Output: Write> Comparison<'_, Output> {
     pub fn run(&mut self, seed: u64, count: usize) -> Result<(), String> {
         // A program that does not run at all fails here, without a call list.
         program::run(self.program, b"")?;
-        let fixed: Vec<String> = edges::list().into_iter().map(|entry| entry.line).collect();
+        let fixed = edges::list().into_iter().chain(edges::table_list());
+        let fixed: Vec<String> = fixed.map(|entry| entry.line).collect();
         self.compare_list("the fixed list", &fixed, &mut Tally::default())?;
         let tally = self.compare_generated(seed, count)?;
         self.print(&format!(
@@ -64,10 +65,8 @@ impl<Output: Write> Comparison<'_, Output> {
             let length = rest.min(LIST_LENGTH);
             let list_seed = seeds.next_number();
             let lines = self.subject.list(list_seed, length);
-            let last = match self.subject {
-                Subject::Board => "",
-                Subject::Captures => " captures",
-            };
+            let word = self.subject.word().map(|word| format!(" {word}"));
+            let last = word.unwrap_or_default();
             let name = format!("the list of `reference generate {list_seed} {length}{last}`");
             self.compare_list(&name, &lines, &mut tally)?;
             rest -= length;

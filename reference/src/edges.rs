@@ -12,6 +12,7 @@ mod records;
 mod rows;
 mod schedule;
 mod senders;
+mod tables;
 mod tool;
 
 use crate::call::Call;
@@ -47,13 +48,9 @@ pub struct Edges {
     password: Vec<u8>,
 }
 
-/// The whole list.
+/// The list of board, tool and captures.
 pub fn list() -> Vec<Entry> {
-    let mut edges = Edges {
-        entries: Vec::new(),
-        id: ZERO_ID.to_vec(),
-        password: Vec::new(),
-    };
+    let mut edges = Edges::new();
     examples::add(&mut edges);
     framing::add(&mut edges);
     senders::add(&mut edges);
@@ -66,6 +63,13 @@ pub fn list() -> Vec<Entry> {
     tool::add(&mut edges);
     lines::add(&mut edges);
     captures::add(&mut edges);
+    edges.entries
+}
+
+/// The list of tables, which may stand behind the other.
+pub fn table_list() -> Vec<Entry> {
+    let mut edges = Edges::new();
+    tables::add(&mut edges);
     edges.entries
 }
 
@@ -118,6 +122,14 @@ fn shown_schedule(changes: &[(&str, &str)]) -> String {
 }
 
 impl Edges {
+    fn new() -> Edges {
+        Edges {
+            entries: Vec::new(),
+            id: ZERO_ID.to_vec(),
+            password: Vec::new(),
+        }
+    }
+
     /// A comment that says which rule the next calls try.
     fn rule(&mut self, text: &str) {
         self.passed_over(&format!("# {text}"));
@@ -183,7 +195,7 @@ mod tests {
     fn every_edge_gets_its_answer() {
         let mut session = Session::new();
         let mut rule = String::new();
-        for Entry { line, answer } in list() {
+        for Entry { line, answer } in list().into_iter().chain(table_list()) {
             assert_eq!(session.line(line.as_bytes()), answer, "{rule}\n{line}");
             if answer.is_none() {
                 rule = line;
@@ -199,7 +211,9 @@ mod tests {
             calls.iter().any(|call| entry.line.starts_with(call))
         };
         let (captures, board): (Vec<&Entry>, Vec<&Entry>) = list.iter().partition(is_capture);
-        for (entries, longest) in [(board, 8_192), (captures, 65_536)] {
+        let tables = table_list();
+        let tables = tables.iter().collect();
+        for (entries, longest) in [(board, 8_192), (captures, 65_536), (tables, 65_536)] {
             let longest_line = entries.iter().map(|entry| entry.line.len()).max();
             assert_eq!(longest_line, Some(longest));
         }

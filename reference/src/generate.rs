@@ -6,12 +6,16 @@ mod calendar;
 mod capture_calls;
 mod capture_damage;
 mod captured;
+mod contents;
+mod drafts;
 mod identities;
 mod joining;
 mod lines;
 mod packets;
 mod poke_calls;
+mod responses;
 mod schedule;
+mod table_calls;
 mod tool_calls;
 mod values;
 
@@ -71,6 +75,17 @@ const CAPTURE_SCENARIOS: [Weighted; 7] = [
     (2, Generator::bad_capture_line),
 ];
 
+const TABLE_SCENARIOS: [Weighted; 8] = [
+    (18, Generator::sound_export),
+    (16, Generator::damaged_export),
+    (2, Generator::export_of_many_boards),
+    (8, Generator::sound_import),
+    (44, Generator::damaged_import),
+    (14, Generator::changed_import),
+    (6, Generator::noise_import),
+    (2, Generator::bad_table_line),
+];
+
 /// What a generated list tries.
 #[derive(Clone, Copy, Debug, Default, PartialEq, Eq)]
 pub enum Subject {
@@ -79,6 +94,8 @@ pub enum Subject {
     Board,
     /// The calls on captures.
     Captures,
+    /// The calls on tables.
+    Tables,
 }
 
 /// A list of `count` calls of board, tool and listing.
@@ -87,6 +104,17 @@ pub fn list(seed: u64, count: usize) -> Vec<String> {
 }
 
 impl Subject {
+    pub const ALL: [Subject; 3] = [Subject::Board, Subject::Captures, Subject::Tables];
+
+    /// The word of a command line that asks for it; the board has none.
+    pub fn word(self) -> Option<&'static str> {
+        match self {
+            Subject::Board => None,
+            Subject::Captures => Some("captures"),
+            Subject::Tables => Some("tables"),
+        }
+    }
+
     /// A list of `count` calls; lines that are passed over come on top of them.
     pub fn list(self, seed: u64, count: usize) -> Vec<String> {
         let mut generator = Generator::new(seed, count);
@@ -94,6 +122,7 @@ impl Subject {
             match self {
                 Subject::Board => generator.board_scenario(),
                 Subject::Captures => generator.capture_scenario(),
+                Subject::Tables => generator.table_scenario(),
             }
         }
         generator.lines
@@ -132,6 +161,16 @@ impl Generator {
             self.long_capture_line();
         }
         self.scenario(&CAPTURE_SCENARIOS);
+    }
+
+    fn table_scenario(&mut self) {
+        if self.random.chance(1) {
+            self.passed_over_line();
+        }
+        if self.calls.is_multiple_of(300) && self.random.chance(50) {
+            self.long_table_line();
+        }
+        self.scenario(&TABLE_SCENARIOS);
     }
 
     fn scenario(&mut self, scenarios: &[Weighted]) {
@@ -197,7 +236,7 @@ mod tests {
 
     #[test]
     fn a_seed_gives_one_list_of_the_asked_length() {
-        for subject in [Subject::Board, Subject::Captures] {
+        for subject in Subject::ALL {
             let first = subject.list(5, 700);
             assert_eq!(first, subject.list(5, 700));
             assert_ne!(first, subject.list(6, 700));
@@ -213,7 +252,7 @@ mod tests {
 
     #[test]
     fn no_line_is_longer_than_a_replay_must_hold() {
-        for (subject, longest) in [(Subject::Board, 8_192), (Subject::Captures, 65_536)] {
+        for (subject, longest) in Subject::ALL.into_iter().zip([8_192, 65_536, 65_536]) {
             let lines = subject.list(9, 5_000);
             assert!(lines.iter().all(|line| line.len() <= longest));
             assert!(lines.iter().any(|line| line.len() == longest));

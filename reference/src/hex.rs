@@ -20,11 +20,16 @@ pub fn field(bytes: &[u8]) -> String {
 
 /// The bytes of a field. Lowercase, an odd number of digits and an empty field are none.
 pub fn parse_field(field: &str) -> Option<Vec<u8>> {
-    if field == "-" {
-        return Some(Vec::new());
+    match field {
+        "-" => Some(Vec::new()),
+        "" => None,
+        digits => parse_digits(digits.as_bytes()),
     }
-    let digits = field.as_bytes();
-    if digits.is_empty() || !digits.len().is_multiple_of(2) {
+}
+
+/// The bytes of uppercase digits, two for each byte.
+pub fn parse_digits(digits: &[u8]) -> Option<Vec<u8>> {
+    if !digits.len().is_multiple_of(2) {
         return None;
     }
     digits
@@ -62,6 +67,15 @@ mod tests {
         assert_eq!(parse_field("-"), Some(vec![]));
         for bad in ["", "0", "ABC", "0a", "--", "-0", "0x", "G0", "é", "+1"] {
             assert_eq!(parse_field(bad), None, "{bad}");
+        }
+    }
+
+    #[test]
+    fn digits_are_uppercase_pairs_or_none() {
+        assert_eq!(parse_digits(b""), Some(vec![]));
+        assert_eq!(parse_digits(b"00AF"), Some(vec![0, 0xAF]));
+        for bad in ["-", "0", "0a", "0G", "@0", "0/", "0:", "00A"] {
+            assert_eq!(parse_digits(bad.as_bytes()), None, "{bad}");
         }
     }
 

@@ -21,5 +21,6 @@ pub mod rows;
 pub mod schedule;
 pub mod shrink;
 pub mod summary;
+pub mod table;
 pub mod tally;
 pub mod tool;

@@ -9,9 +9,9 @@ use reference::generate::Subject;
 use reference::{edges, replay};
 
 const USAGE: &str = "usage: reference replay
-       reference generate SEED COUNT [captures]
+       reference generate SEED COUNT [captures | tables]
        reference edges
-       reference compare SEED COUNT PROGRAM [captures]
+       reference compare SEED COUNT PROGRAM [captures | tables]
 SEED is a decimal number up to 18446744073709551615, COUNT one from 1 to 1000000000.";
 
 const GREATEST_COUNT: usize = 1_000_000_000;
@@ -39,7 +39,10 @@ fn run(arguments: &[&str]) -> Result<(), String> {
             let (seed, count) = (parse_seed(seed)?, parse_count(count)?);
             print(subject.list(seed, count))
         }
-        ["edges"] => print(edges::list().into_iter().map(|entry| entry.line)),
+        ["edges"] => {
+            let entries = edges::list().into_iter().chain(edges::table_list());
+            print(entries.map(|entry| entry.line))
+        }
         ["compare", seed, count, program, subject @ ..] => {
             let subject = parse_subject(subject)?;
             let (seed, count) = (parse_seed(seed)?, parse_count(count)?);
@@ -57,11 +60,9 @@ fn run(arguments: &[&str]) -> Result<(), String> {
 
 /// What the generated calls are about; the board if it is not said.
 fn parse_subject(arguments: &[&str]) -> Result<Subject, String> {
-    match arguments {
-        [] => Ok(Subject::Board),
-        ["captures"] => Ok(Subject::Captures),
-        _ => Err(USAGE.to_string()),
-    }
+    let mut subjects = Subject::ALL.into_iter();
+    let found = subjects.find(|subject| Vec::from_iter(subject.word()) == arguments);
+    found.ok_or_else(|| USAGE.to_string())
 }
 
 /// A decimal number of digits alone.

@@ -51,8 +51,16 @@ pub enum Refusal {
     CaptureBoards = 52,
     /// Capture: a record is cut short or has a field outside its range.
     CaptureRecord = 53,
-    /// Capture: the writer's buffer is too short.
+    /// Capture and table: the writer's buffer is too short.
     CaptureBuffer = 54,
+    /// Table: the header differs or is missing.
+    TableHeader = 60,
+    /// Table: the quoting or the line end is wrong.
+    TableQuoting = 61,
+    /// Table: a line has another number of fields.
+    TableFields = 62,
+    /// Table: a field is outside its form.
+    TableForm = 63,
     /// The board record is not a legal one.
     IllegalRecord = 70,
 }

@@ -12,6 +12,7 @@ use crate::record::{self, Record};
 use crate::refusal::Refusal;
 use crate::schedule;
 use crate::summary;
+use crate::table::{self, Exported, Row};
 use crate::tool;
 
 pub const BAD_LINE: &str = "bad line";
@@ -78,6 +79,8 @@ impl Session {
             }
             Call::Summary { capture } => summarize(capture),
             Call::Rewrite { room, capture } => rewrite(*room, capture),
+            Call::Export { room, capture } => export(*room, capture),
+            Call::Import { table } => import(table),
             poke => self.poke(poke),
         }
     }
@@ -186,15 +189,60 @@ fn summarize(capture: &[u8]) -> String {
     }
 }
 
+/// The table, then how many responses were refused, and why the capture was if it was.
+fn export(room: usize, capture: &[u8]) -> String {
+    let mut buffer = vec![FILLER; room];
+    let Exported {
+        length,
+        refused,
+        refusal,
+    } = match table::export(&mut buffer, capture) {
+        Ok(exported) => exported,
+        Err(refusal) => return written("table", &buffer, Err(refusal)),
+    };
+    let text = written("table", &buffer, Ok(length));
+    let beside = refusal.map(|refusal| format!(" capture,{}", refusal.number()));
+    format!("{text} refused,{refused}{}", beside.unwrap_or_default())
+}
+
+fn import(text: &[u8]) -> String {
+    let imported = table::import(text);
+    let mut text = "reports".to_string();
+    for row in &imported.rows {
+        text += &format!(" {}", shown_row(row));
+    }
+    if let Some((refusal, line)) = imported.refusal {
+        text += &format!(" {} line {line}", refused(refusal));
+    }
+    text
+}
+
+/// `ID.D.C.NNNN=HEX`, or `unknown` for the value.
+fn shown_row(row: &Row) -> String {
+    let Row {
+        board,
+        direction,
+        counter,
+        report,
+    } = row;
+    let board = hex::digits(board);
+    format!("{board}.{direction}.{counter}.{}", shown_report(report))
+}
+
 fn read(id: &[u8], password: &[u8], packet: &[u8]) -> String {
     match tool::read(id, password, packet) {
         Ok(reports) => reports.iter().fold("reports".to_string(), |text, report| {
-            text + &match report {
-                Report::Value { number, value } => format!(" {number:04X}={}", hex::field(value)),
-                Report::Unknown { number } => format!(" {number:04X}=unknown"),
-            }
+            format!("{text} {}", shown_report(report))
         }),
         Err(refusal) => refused(refusal),
+    }
+}
+
+/// `NNNN=HEX`, or `unknown` for the value.
+fn shown_report(report: &Report) -> String {
+    match report {
+        Report::Value { number, value } => format!("{number:04X}={}", hex::field(value)),
+        Report::Unknown { number } => format!("{number:04X}=unknown"),
     }
 }
 
@@ -350,6 +398,42 @@ mod tests {
             run("rewrite 0 -\nrewrite 0 564C47\nrewrite 0 564C470100\n"),
             "refused 50\nrefused 51\nrefused 52\n"
         );
+    }
+
+    #[test]
+    fn captures_are_exported() {
+        let id = "30".repeat(16);
+        let capture = format!("564C47010001{id}00010500000002000102");
+        // The header and its line end.
+        let header = "22626F617264222C22646972656374696F6E222C22636F756E746572222C226E756D626572222C2276616C7565220D0A";
+        let list = format!(
+            "export 48 {capture}\nexport 47 {capture}\nexport 50 {capture}00\nexport 48 -\nexport 0 -\n"
+        );
+        let expected = format!(
+            "table {header} refused,1\nrefused 54\ntable {header} refused,1 capture,53\n\
+             table {header} refused,0 capture,50\nrefused 54\n"
+        );
+        assert_eq!(run(&list), expected);
+    }
+
+    #[test]
+    fn tables_are_imported() {
+        let header = "22626F617264222C22646972656374696F6E222C22636F756E746572222C226E756D626572222C2276616C7565220D0A";
+        let line = |value: &str| {
+            let id = "30".repeat(32);
+            let text = format!("\",\"1\",\"70\",\"0x02AB\",\"{value}\"\r\n");
+            format!("2278{id}{}", hex::digits(text.as_bytes()))
+        };
+        let id = "0".repeat(32);
+        let (value, unknown) = (line("xC0DE"), line("x"));
+        let list = format!(
+            "import {header}\nimport {header}{value}{unknown}\nimport {header}{value}0D0A\nimport -\n"
+        );
+        let expected = format!(
+            "reports\nreports {id}.1.70.02AB=C0DE {id}.1.70.02AB=unknown\n\
+             reports {id}.1.70.02AB=C0DE refused 61 line 3\nreports refused 60 line 1\n"
+        );
+        assert_eq!(run(&list), expected);
     }
 
     #[test]

@@ -3,6 +3,7 @@
 mod calendar;
 mod captures;
 mod schedule;
+mod tables;
 
 use std::collections::BTreeMap;
 
@@ -39,7 +40,8 @@ pub fn refusals(call: &str) -> &'static [u8] {
     let of_board = EXPECTED
         .iter()
         .map(|(call, refusals, _)| (*call, *refusals));
-    let mut all = of_board.chain(captures::REFUSALS);
+    let others = captures::REFUSALS.into_iter().chain(tables::REFUSALS);
+    let mut all = of_board.chain(others);
     all.find(|(name, _)| *name == call)
         .map_or(&[], |(_, refusals)| refusals)
 }
@@ -64,12 +66,17 @@ impl Tally {
     pub fn add(&mut self, line: &str, answer: &str, record: &Record) {
         match self.subject {
             Subject::Board => self.add_board(line, answer, record),
-            Subject::Captures => self.add_capture(line, answer),
+            Subject::Captures => {
+                self.add_written(line, answer, captures::met(line, answer, &self.written))
+            }
+            Subject::Tables => {
+                self.add_written(line, answer, tables::met(line, answer, &self.written))
+            }
         }
     }
 
-    fn add_capture(&mut self, line: &str, answer: &str) {
-        for name in captures::met(line, answer, &self.written) {
+    fn add_written(&mut self, line: &str, answer: &str, met: Vec<String>) {
+        for name in met {
             *self.counts.entry(name).or_default() += 1;
         }
         self.written.keep(line, answer);
@@ -113,6 +120,7 @@ fn expected(subject: Subject) -> Vec<String> {
     match subject {
         Subject::Board => expected_of_board().collect(),
         Subject::Captures => captures::expected(),
+        Subject::Tables => tables::expected(),
     }
 }
 
@@ -194,7 +202,7 @@ mod tests {
 
     #[test]
     fn generated_lists_meet_every_answer_often() {
-        for subject in [Subject::Board, Subject::Captures] {
+        for subject in Subject::ALL {
             let mut tally = Tally::new(subject);
             let mut session = Session::new();
             for line in subject.list(1, 30_000) {

@@ -88,12 +88,30 @@ fn captures_are_compared_and_counted_apart() {
 }
 
 #[test]
-fn a_wrong_answer_on_captures_names_its_list() {
-    let program = program("summary", "\"$REFERENCE\" replay | sed 's/^13,/12,/'");
-    let output = compare_with(&["1", "3000", program.to_str().unwrap(), "captures"]);
-    assert!(!output.status.success());
-    let error = String::from_utf8(output.stderr).unwrap();
-    assert!(error.ends_with(" captures`\n"), "{error}");
+fn tables_are_compared_and_counted_apart() {
+    let program = program("tables", "exec \"$REFERENCE\" replay");
+    let output = compare_with(&["5", "12000", program.to_str().unwrap(), "tables"]);
+    let text = String::from_utf8(output.stdout).unwrap();
+    assert!(output.status.success(), "{text}");
+    assert!(text.contains("  import refused 61: no line end, also 63\n"));
+    assert!(!text.contains("packet silence") && !text.contains("capwrite"));
+}
+
+#[test]
+fn a_wrong_answer_names_its_list() {
+    for (subject, command) in [
+        ("captures", "\"$REFERENCE\" replay | sed 's/^13,/12,/'"),
+        (
+            "tables",
+            "\"$REFERENCE\" replay | sed 's/ line 23$/ line 22/'",
+        ),
+    ] {
+        let program = program(&format!("wrong-{subject}"), command);
+        let output = compare_with(&["1", "3000", program.to_str().unwrap(), subject]);
+        assert!(!output.status.success());
+        let error = String::from_utf8(output.stderr).unwrap();
+        assert!(error.ends_with(&format!(" {subject}`\n")), "{error}");
+    }
 }
 
 #[test]

@@ -621,8 +621,20 @@ fn the_capture_is_read_and_summed_up_so() {
     assert_eq!(texts.len(), 2);
 }
 
+#[test]
+fn the_capture_is_exported_so() {
+    let capture = blocks("Captures").concat().concat().replace(' ', "");
+    let lines = blocks("Exporting a capture").concat();
+    let (last, rows) = lines.split_last().expect("lines");
+    let table: String = rows.iter().map(|row| format!("{row}\r\n")).collect();
+    let digits: String = table.bytes().map(|byte| format!("{byte:02X}")).collect();
+    let answer = Session::new().line(format!("export 1000 {capture}").as_bytes());
+    assert_eq!(answer.expect("an answer"), format!("table {digits} {last}"));
+    assert_eq!(blocks("Tables").concat(), rows[..1]);
+}
+
 /// Each call of a list with the section of the page that has its refusals.
-const SECTIONS: [(&str, &str); 10] = [
+const SECTIONS: [(&str, &str); 12] = [
     ("setup", "Setting up a board"),
     ("packet", "A packet"),
     ("measure", "A measurement"),
@@ -633,6 +645,8 @@ const SECTIONS: [(&str, &str); 10] = [
     ("capwrite", "Writing a capture"),
     ("summary", "The summary of a capture"),
     ("rewrite", "Rewriting a capture"),
+    ("export", "Exporting a capture"),
+    ("import", "Importing a table"),
 ];
 
 /// A call list cannot describe what 41 refuses.
@@ -656,19 +670,29 @@ fn refusals_are_in_the_order_of_the_checks() {
     }
 }
 
+/// The number of the refusal that ends an answer: behind a comma in a text of lines, else behind a space. An export that is not refused counts
+/// refused responses.
+fn refusal_told(call: &str, answer: &str) -> Option<u8> {
+    if call == "export" && answer != "refused 54" {
+        return None;
+    }
+    let (_, rest) = answer.rsplit_once("refused")?;
+    let number = rest[1..].split(' ').next()?;
+    Some(number.parse().expect("a number"))
+}
+
 #[test]
 fn refusals_are_those_that_occur() {
     let mut occurred = BTreeSet::new();
     let mut session = Session::new();
-    let edges = edges::list().into_iter().map(|entry| entry.line);
+    let edges = edges::list().into_iter().chain(edges::table_list());
+    let edges = edges.map(|entry| entry.line);
     let captures = Subject::Captures.list(1, 5_000);
     for line in edges.chain(generate::list(1, 20_000)).chain(captures) {
         let answer = session.line(line.as_bytes()).unwrap_or_default();
-        // Behind a comma in a text of lines, else behind a space.
-        let refused = answer.rsplit_once("refused");
-        let number = refused.map(|(_, rest)| rest[1..].parse());
-        if let (Some(number), Some(call)) = (number, line.split(' ').next()) {
-            occurred.insert((call.to_string(), number.expect("a number")));
+        let call = line.split(' ').next().unwrap_or_default();
+        if let Some(number) = refusal_told(call, &answer) {
+            occurred.insert((call.to_string(), number));
         }
     }
     let mut listed = BTreeSet::new();

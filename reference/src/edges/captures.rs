@@ -11,33 +11,33 @@ use super::{Edges, bytes};
 use crate::hex;
 
 /// The ID of the boards here, and another.
-const A: &str = "30303244364531423334353635383135";
+pub const A: &str = "30303244364531423334353635383135";
 const B: &str = "00000000000000000000000000000000";
 /// A head of board A alone.
-const ONE_BOARD: &str = "VLG #1 30303244364531423334353635383135";
+pub const ONE_BOARD: &str = "VLG #1 30303244364531423334353635383135";
 
 /// A version of the form. In a capture written by hand `VLG` stands for its mark and version, `#n` for a board count
 /// or index of n.
 #[derive(Clone, Copy)]
-struct Form {
-    version: u16,
+pub struct Form {
+    pub version: u16,
     /// The bytes of a board count or index.
     width: usize,
 }
 
-const ONE: Form = Form {
+pub const ONE: Form = Form {
     version: 1,
     width: 1,
 };
-const TWO: Form = Form {
+pub const TWO: Form = Form {
     version: 2,
     width: 2,
 };
-const FORMS: [Form; 2] = [ONE, TWO];
+pub const FORMS: [Form; 2] = [ONE, TWO];
 
 impl Form {
     /// The bytes of a capture written by hand.
-    fn bytes(self, capture: &str) -> Vec<u8> {
+    pub fn bytes(self, capture: &str) -> Vec<u8> {
         let words = capture.split(' ');
         words.flat_map(|word| self.word(word)).collect()
     }

@@ -151,7 +151,12 @@ impl Generator {
     }
 
     pub fn bad_capture_line(&mut self) {
-        let fixed = self.random.pick(&BAD_LINES).to_string();
+        self.bad_line_of(&BAD_LINES);
+    }
+
+    /// One of these bad lines, or the last line with a character or a field changed.
+    pub fn bad_line_of(&mut self, lines: &[&str]) {
+        let fixed = self.random.pick(lines).to_string();
         let last = self.lines.last().cloned().unwrap_or_default();
         let line = match last.len() < LONGEST_LINE / 2 && self.random.chance(50) {
             true => self.spoiled(&last),
@@ -193,7 +198,7 @@ impl Generator {
         self.write_capture(room, ids, records);
     }
 
-    fn version(&mut self) -> Version {
+    pub fn version(&mut self) -> Version {
         self.random.pick(&Version::ALL)
     }
 
@@ -204,7 +209,7 @@ impl Generator {
     }
 
     /// Records that make a capture of at most so many bytes, and nearly so many.
-    fn records_of(&mut self, version: Version, ids: &[Vec<u8>], size: usize) -> Vec<Captured> {
+    pub fn records_of(&mut self, version: Version, ids: &[Vec<u8>], size: usize) -> Vec<Captured> {
         let head = capture::compose(version, &ids.concat(), &[]).len();
         let mut rest = size - head;
         let mut records = Vec::new();
@@ -220,7 +225,7 @@ impl Generator {
     }
 
     /// Room for so many bytes in most cases, often exactly so much or one byte less.
-    fn room_for(&mut self, size: usize) -> usize {
+    pub fn room_for(&mut self, size: usize) -> usize {
         self.random.pick(&[
             size,
             size,
@@ -279,7 +284,7 @@ impl Generator {
     }
 
     /// Makes a call if its line is not too long.
-    fn capture_call(&mut self, call: Call) -> String {
+    pub fn capture_call(&mut self, call: Call) -> String {
         let line = call.to_string();
         match line.len() <= LONGEST_LINE {
             true => self.line(line),

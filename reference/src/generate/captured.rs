@@ -67,7 +67,7 @@ impl Contents {
 }
 
 /// The number of boards of a capture, mostly one or two.
-fn board_count(random: &mut Random, version: Version) -> usize {
+pub fn board_count(random: &mut Random, version: Version) -> usize {
     let any = random.between(1, 16);
     let more = version.most_boards().min(17);
     random.pick(&[1, 1, 1, 1, 2, 2, 3, 15, 16, more, any])
@@ -133,14 +133,14 @@ pub fn record(random: &mut Random, ids: &[Vec<u8>]) -> Captured {
     }
 }
 
-fn index(random: &mut Random, boards: usize) -> usize {
+pub fn index(random: &mut Random, boards: usize) -> usize {
     let (any, last) = (random.between(0, boards - 1), boards - 1);
     // Another digit, another byte.
     let edge = random.pick(&[9, 10, 99, 100, 255, 256]);
     random.pick(&[0, last, any, edge.min(last)])
 }
 
-fn counter(random: &mut Random) -> u32 {
+pub fn counter(random: &mut Random) -> u32 {
     let any = random.next_number() as u32;
     match random.chance(70) {
         true => random.pick(&COUNTERS),
@@ -191,7 +191,7 @@ fn malformed(random: &mut Random, direction: u8, id: &[u8], password: &[u8]) -> 
 }
 
 /// A request and what a board answers to it.
-fn exchange(random: &mut Random, ids: &[Vec<u8>], records: &mut Vec<Captured>) {
+pub fn exchange(random: &mut Random, ids: &[Vec<u8>], records: &mut Vec<Captured>) {
     let index = index(random, ids.len());
     let (id, password) = (&ids[index], identities::legal_password(random));
     let (mut board, _) = record::setup(id, &password, ACCESS_POINT);

@@ -18,22 +18,28 @@ pub const REFUSALS: [(&str, &[u8]); 4] = [
     ("rewrite", &[50, 51, 52, 54, 53]),
 ];
 
-/// The last capture that a call wrote.
+/// The last capture or table that a call wrote.
 #[derive(Default)]
 pub struct Written {
     call: String,
-    /// The capture as a field.
-    capture: String,
+    /// The capture or table as a field.
+    bytes: String,
 }
 
 impl Written {
     /// Keeps what the call wrote, if it did.
     pub fn keep(&mut self, line: &str, answer: &str) {
         let words: Vec<&str> = answer.split(' ').collect();
-        if let ["capture", capture, ..] = words[..] {
+        if let ["capture" | "table", bytes, ..] = words[..] {
             let call = line.split(' ').next().unwrap_or_default();
-            (self.call, self.capture) = (call.to_string(), capture.to_string());
+            (self.call, self.bytes) = (call.to_string(), bytes.to_string());
         }
+    }
+
+    /// The writer of what the call takes as its only field, if it was written last.
+    pub fn writer(&self, line: &str) -> Option<String> {
+        let is_written = line.split(' ').nth(1) == Some(&self.bytes);
+        is_written.then(|| format!("what {} wrote", self.call))
     }
 }
 
@@ -57,7 +63,7 @@ pub fn expected() -> Vec<String> {
     .concat()
 }
 
-fn named(call: &str, names: impl IntoIterator<Item = String>) -> Vec<String> {
+pub fn named(call: &str, names: impl IntoIterator<Item = String>) -> Vec<String> {
     let names = names.into_iter();
     names.map(|name| format!("{call} {name}")).collect()
 }
@@ -85,7 +91,7 @@ pub fn met(line: &str, answer: &str, written: &Written) -> Vec<String> {
 }
 
 /// The names of what holds.
-fn also<const COUNT: usize>(names: [(bool, &str); COUNT]) -> impl Iterator<Item = String> {
+pub fn also<const COUNT: usize>(names: [(bool, &str); COUNT]) -> impl Iterator<Item = String> {
     names
         .into_iter()
         .filter(|(holds, _)| *holds)
@@ -93,7 +99,7 @@ fn also<const COUNT: usize>(names: [(bool, &str); COUNT]) -> impl Iterator<Item 
 }
 
 /// Names with their version: those of either, and those of each alone.
-fn of_each_version(either: &[&str], one: &[&str], two: &[&str]) -> Vec<String> {
+pub fn of_each_version(either: &[&str], one: &[&str], two: &[&str]) -> Vec<String> {
     let of_version = |version: Version, names: &[&str]| {
         let names = either.iter().chain(names);
         let number = version.number();
@@ -126,7 +132,7 @@ fn index_causes(boards: usize, index: u16) -> Option<String> {
 }
 
 /// What is left of a buffer that a writer has written to.
-fn room_left(left: usize) -> String {
+pub fn room_left(left: usize) -> String {
     let name = match left {
         0 => "the buffer's whole length",
         1 => "one byte of the buffer left",
@@ -136,7 +142,7 @@ fn room_left(left: usize) -> String {
 }
 
 /// What a buffer is short of.
-fn room_missing(missing: usize, room: usize) -> String {
+pub fn room_missing(missing: usize, room: usize) -> String {
     let name = match missing {
         _ if room == 0 => "no byte",
         1 => "one byte too short",

@@ -153,14 +153,13 @@ fn record(record: &Captured) -> Vec<String> {
 fn accepted(line: &str, reading: &Reading, written: &Written) -> Vec<String> {
     let boards = reading.ids.len();
     let distinct: BTreeSet<_> = reading.ids.iter().collect();
-    let is_written = line.split(' ').nth(1) == Some(&written.capture);
-    let (boards_of, writer) = (boards_of(boards), format!("what {} wrote", written.call));
+    let boards_of = boards_of(boards);
     let names = also([
         (true, &boards_of[..]),
         (distinct.len() < boards, "equal IDs"),
         (reading.records.is_empty(), "no record"),
-        (is_written, &writer),
     ]);
+    let names = names.chain(written.writer(line));
     let names = names.map(|name| format!("accepted: {name}"));
     names.chain(["accepted".to_string()]).collect()
 }
