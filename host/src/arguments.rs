@@ -25,6 +25,9 @@ pub enum Task {
     Summary(Source),
     /// A capture, and where its new file goes.
     Rewrite(Source, PathBuf),
+    /// A capture, and where its table goes.
+    Export(Source, PathBuf),
+    Import(Source),
     Request(Request),
 }
 
@@ -53,8 +56,8 @@ const SEARCH: Form = Form {
     flags: &["-d"],
 };
 
-/// Of summary and rewrite.
-const CAPTURE: Form = Form {
+/// Of summary, rewrite, export and import.
+const FILES: Form = Form {
     valued: &[],
     flags: &[],
 };
@@ -94,8 +97,10 @@ pub fn parse(arguments: &[String]) -> Result<Task, String> {
         "lower" => parse_request(rest, NO_RETRIES, |words| questions::steps(LOWER, words)),
         "schedule" => parse_schedule(rest),
         "search" => parse_search(rest),
-        "summary" => parse_summary(rest),
-        "rewrite" => parse_rewrite(rest),
+        "summary" => parse_file(rest, Task::Summary),
+        "rewrite" => parse_files(rest, "a capture is rewritten", Task::Rewrite),
+        "export" => parse_files(rest, "a table is written", Task::Export),
+        "import" => parse_file(rest, Task::Import),
         _ => Err(format!("there is no command `{command}`")),
     }
 }
@@ -169,22 +174,27 @@ fn parse_search(arguments: &[String]) -> Result<Task, String> {
     request(&options, Kind::Search, commands, RETRIES)
 }
 
-fn parse_summary(arguments: &[String]) -> Result<Task, String> {
-    let options = Options::parse(arguments, &CAPTURE)?;
+fn parse_file(arguments: &[String], task: impl Fn(Source) -> Task) -> Result<Task, String> {
+    let options = Options::parse(arguments, &FILES)?;
     match options.words()[..] {
         [] => Err(String::from("there is no file")),
-        [source] => Ok(Task::Summary(parse_source(source))),
+        [source] => Ok(task(parse_source(source))),
         [_, word, ..] => Err(unwanted(word)),
     }
 }
 
-fn parse_rewrite(arguments: &[String]) -> Result<Task, String> {
-    let options = Options::parse(arguments, &CAPTURE)?;
+/// One that is read, and a new one.
+fn parse_files(
+    arguments: &[String],
+    work: &str,
+    task: impl Fn(Source, PathBuf) -> Task,
+) -> Result<Task, String> {
+    let options = Options::parse(arguments, &FILES)?;
     match options.words()[..] {
         [] => Err(String::from("there is no file")),
         [_] => Err(String::from("there is no new file")),
-        [_, "-"] => Err(String::from("a capture is rewritten to a file, not to `-`")),
-        [source, place] => Ok(Task::Rewrite(parse_source(source), PathBuf::from(place))),
+        [_, "-"] => Err(format!("{work} to a file, not to `-`")),
+        [source, place] => Ok(task(parse_source(source), PathBuf::from(place))),
         [_, _, word, ..] => Err(unwanted(word)),
     }
 }
@@ -441,34 +451,39 @@ mod tests {
     }
 
     #[test]
-    fn a_summary_is_of_a_file_or_of_standard_input() {
-        for (text, source) in [
-            ("summary -", Source::StandardInput),
-            ("summary -- -", Source::StandardInput),
-            ("summary ./-", Source::File(PathBuf::from("./-"))),
-            ("summary -- --help", Source::File(PathBuf::from("--help"))),
-        ] {
-            match parsed(text) {
-                Ok(Task::Summary(parsed)) => assert_eq!(parsed, source),
-                other => panic!("{text}: {other:?}"),
+    fn a_file_is_read_by_its_name_or_from_standard_input() {
+        for command in ["summary", "import"] {
+            for (words, source) in [
+                ("-", Source::StandardInput),
+                ("-- -", Source::StandardInput),
+                ("./-", Source::File(PathBuf::from("./-"))),
+                ("-- --help", Source::File(PathBuf::from("--help"))),
+            ] {
+                match parsed(&format!("{command} {words}")) {
+                    Ok(Task::Summary(parsed)) if command == "summary" => assert_eq!(parsed, source),
+                    Ok(Task::Import(parsed)) if command == "import" => assert_eq!(parsed, source),
+                    other => panic!("{command} {words}: {other:?}"),
+                }
             }
         }
     }
 
     #[test]
-    fn a_capture_is_rewritten_to_a_file() {
+    fn what_is_made_of_a_capture_goes_to_a_file() {
         let file = |path: &str| Source::File(PathBuf::from(path));
-        for (text, source, place) in [
-            ("rewrite a b", file("a"), "b"),
-            ("rewrite - b", Source::StandardInput, "b"),
-            ("rewrite a ./-", file("a"), "./-"),
-            ("rewrite -- --help -d", file("--help"), "-d"),
-        ] {
-            match parsed(text) {
-                Ok(Task::Rewrite(from, to)) => {
-                    assert_eq!((from, to), (source, PathBuf::from(place)));
-                }
-                other => panic!("{text}: {other:?}"),
+        for command in ["rewrite", "export"] {
+            for (words, source, place) in [
+                ("a b", file("a"), "b"),
+                ("- b", Source::StandardInput, "b"),
+                ("a ./-", file("a"), "./-"),
+                ("-- --help -d", file("--help"), "-d"),
+            ] {
+                let (from, to) = match parsed(&format!("{command} {words}")) {
+                    Ok(Task::Rewrite(from, to)) if command == "rewrite" => (from, to),
+                    Ok(Task::Export(from, to)) if command == "export" => (from, to),
+                    other => panic!("{command} {words}: {other:?}"),
+                };
+                assert_eq!((from, to), (source, PathBuf::from(place)));
             }
         }
     }

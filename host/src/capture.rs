@@ -15,7 +15,7 @@ pub const WINDOW: usize = 65536;
 /// A window that has room for every head has room for every record.
 const _: () = assert!(LONGEST_RECORD <= LONGEST_HEAD);
 
-/// Where a capture stands.
+/// Where a capture or a table stands.
 #[derive(Debug, PartialEq, Eq)]
 pub enum Source {
     StandardInput,

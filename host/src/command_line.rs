@@ -4,7 +4,7 @@ use std::ffi::OsString;
 use std::process::ExitCode;
 
 use crate::arguments::{self, Task};
-use crate::{client, output, rewrite, server, signals, summary};
+use crate::{client, export, import, output, rewrite, server, signals, summary};
 
 const FAILED: u8 = 1;
 const BAD_ARGUMENTS: u8 = 2;
@@ -19,6 +19,8 @@ pub fn run(arguments: impl Iterator<Item = OsString>) -> ExitCode {
         Task::Print(text) => output::put(text.as_bytes()),
         Task::Summary(source) => summary::run(&source),
         Task::Rewrite(source, place) => rewrite::run(&source, &place),
+        Task::Export(source, place) => export::run(&source, &place),
+        Task::Import(source) => import::run(&source),
         Task::Request(request) => match client::run(&request) {
             true => Ok(()),
             // It has said why.

@@ -25,6 +25,8 @@ pub fn of(command: &str) -> Option<String> {
         "search" => &[include_str!("help/search.txt"), OPTIONS, EXIT],
         "summary" => &[include_str!("help/summary.txt"), EXIT],
         "rewrite" => &[include_str!("help/rewrite.txt"), EXIT],
+        "export" => &[include_str!("help/export.txt"), EXIT],
+        "import" => &[include_str!("help/import.txt"), EXIT],
         _ => return None,
     };
     Some(parts.concat())
@@ -35,8 +37,9 @@ mod tests {
     use super::*;
     use crate::arguments;
 
-    const COMMANDS: [&str; 10] = [
-        "board", "rows", "get", "set", "raise", "lower", "schedule", "search", "summary", "rewrite",
+    const COMMANDS: [&str; 12] = [
+        "board", "rows", "get", "set", "raise", "lower", "schedule", "search", "summary",
+        "rewrite", "export", "import",
     ];
 
     /// But for the file of boards, which is not there to be read.

@@ -1,5 +1,5 @@
-//! The board on a UDP socket and its command line client. Packets, records, listings and captures are the proved libraries' work; this
-//! crate has the sockets, the files, the arguments and the names and readings of the rows.
+//! The board on a UDP socket and its command line client. Packets, records, listings, captures and tables are the proved libraries' work;
+//! this crate has the sockets, the files, the arguments and the names and readings of the rows.
 
 pub mod answer;
 pub mod arguments;
@@ -14,11 +14,14 @@ pub mod dump;
 pub mod entry;
 pub mod escape;
 pub mod exchange;
+pub mod export;
 pub mod ffi;
 pub mod fields;
 pub mod format;
 pub mod help;
 pub mod hex;
+pub mod import;
+pub mod new_file;
 pub mod notes;
 pub mod options;
 pub mod outcome;

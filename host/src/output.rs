@@ -77,6 +77,6 @@ pub fn show_packet(what: &str, address: SocketAddr, bytes: &[u8]) {
 }
 
 /// On standard error, in one piece, since several boards may be asked at once. The work goes on where nobody reads it.
-fn say(text: &str) {
+pub fn say(text: &str) {
     let _ = io::stderr().write_all(text.as_bytes());
 }

@@ -35,7 +35,11 @@ impl Refusal {
             51 => "version is neither 1 nor 2, or is cut short",
             52 => "not 1 to 16 boards in version 1 or 1 to 1,000 in version 2, with an ID of 16 bytes each",
             53 => "a record is cut short, or its index, direction or length is outside its range",
-            54 => "buffer shorter than the capture",
+            54 => "buffer shorter than the capture or the table",
+            60 => "not the header of a table",
+            61 => "a field is not in quotes, or no CR LF ends the line",
+            62 => "not five fields",
+            63 => "a field is not in its form, a counter over 32 bits, or a value over 255 bytes",
             70 => "the record is not one that a board can have",
             _ => "unknown number",
         }

@@ -1,63 +1,26 @@
 //! Rewrites a capture in version 2, as a file of its own.
 
-use std::fs::{self, File, Metadata};
-use std::io::{self, Read, Write};
+use std::io::{Read, Write};
 use std::ops::ControlFlow;
-use std::os::unix::fs::MetadataExt;
 use std::path::Path;
 
 use crate::capture::{self, Capture, Source, WINDOW};
-use crate::draft::Draft;
 use crate::ffi::captures::{self, Head, Next, Record, BAD_RECORD, LONGEST_HEAD, LONGEST_RECORD};
+use crate::new_file::{self, Failure};
 use crate::refusal::Refusal;
-use crate::signals;
-
-/// Why a capture was not rewritten.
-#[derive(Debug)]
-pub enum Failure {
-    Input(io::Error),
-    Output(io::Error),
-    /// Its head is refused.
-    Refused(Refusal),
-}
 
 /// Rewrites a capture as a new file. One that 53 refuses is rewritten up to there, and its refusal is the error; after any other error
 /// there is no file.
 pub fn run(source: &Source, place: &Path) -> Result<(), String> {
-    let opened = source.open().map_err(Failure::Input);
-    let kept = opened.and_then(|file| {
-        check_apart(&file, place)?;
-        // From here on a signal would leave a part of a file behind.
-        signals::catch();
-        let stop = signals::came;
-        keep(Stoppable { reader: file, stop }, place)
-    });
-    match kept {
+    match new_file::open(source, place).and_then(|input| keep(input, place)) {
         Ok(refusal) => capture::accepted(refusal),
-        Err(Failure::Refused(refusal)) => capture::accepted(Some(refusal)),
-        Err(Failure::Input(error)) => Err(format!("cannot read {source}: {error}")),
-        Err(Failure::Output(error)) => Err(format!("cannot write {}: {error}", place.display())),
-    }
-}
-
-/// A capture is not written over itself, by whatever name.
-fn check_apart(input: &File, place: &Path) -> Result<(), Failure> {
-    let identity = |metadata: Metadata| (metadata.dev(), metadata.ino());
-    let read = input.metadata().map(identity).map_err(Failure::Input)?;
-    match fs::metadata(place).map(identity) {
-        Ok(there) if there == read => Err(Failure::Output(io::Error::other(
-            "it is the capture that is read",
-        ))),
-        _ => Ok(()),
+        Err(failure) => Err(failure.words(source, place)),
     }
 }
 
 /// Rewrites a capture as a file that is there only when it is whole.
 pub fn keep(input: impl Read, place: &Path) -> Result<Option<Refusal>, Failure> {
-    let mut draft = Draft::create(place).map_err(Failure::Output)?;
-    let refusal = rewrite(input, &mut draft.file, WINDOW)?;
-    draft.keep().map_err(Failure::Output)?;
-    Ok(refusal)
+    new_file::keep(place, |file| rewrite(input, file, WINDOW))
 }
 
 /// Rewrites a capture through a window of this size, or of the longest head's where that is more. One that 53 refuses is rewritten up to
@@ -117,26 +80,11 @@ fn put(rewritten: &mut Vec<u8>, boards: u16, record: Record) -> Result<(), Refus
     Ok(())
 }
 
-/// A reader that fails once `stop` says so.
-struct Stoppable<R, S> {
-    reader: R,
-    stop: S,
-}
-
-impl<R: Read, S: Fn() -> bool> Read for Stoppable<R, S> {
-    fn read(&mut self, room: &mut [u8]) -> io::Result<usize> {
-        let read = self.reader.read(room);
-        match (self.stop)() {
-            true => Err(io::Error::other("stopped by a signal")),
-            false => read,
-        }
-    }
-}
-
 #[cfg(test)]
 mod tests {
     use super::*;
     use crate::capture::tests::{failed, interrupted, Answers, HEAD};
+    use std::io;
 
     /// An empty request, and what it is in version 1.
     const RECORD: &[u8] = &[0; 9];
@@ -200,16 +148,5 @@ mod tests {
             assert!(matches!(rewritten, Err(Failure::Output(_))), "{room}");
         }
         assert!(rewrite(&capture[..], Full(capture.len()), 0).is_ok());
-    }
-
-    #[test]
-    fn a_signal_ends_the_reading() {
-        let came = |stop: bool| {
-            let reader = Answers::new([interrupted(), Ok(HEAD), Ok(b"")]);
-            let stop = move || stop;
-            rewrite(Stoppable { reader, stop }, io::sink(), 0)
-        };
-        assert!(matches!(came(true), Err(Failure::Input(_))));
-        assert!(matches!(came(false), Ok(None)));
     }
 }

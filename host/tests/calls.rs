@@ -5,6 +5,7 @@
 //! buffers under 256 bytes, which this crate never lends.
 
 mod capture_calls;
+mod table_calls;
 
 use std::fs;
 use std::path::Path;
@@ -12,7 +13,9 @@ use udgornwy::ffi::{self, Answer, Board, Command, Places};
 use udgornwy::hex::{self, digits};
 use udgornwy::refusal::Refusal;
 
-const CAPTURE_CALLS: [&str; 4] = ["capread", "capwrite", "summary", "rewrite"];
+const CAPTURE_CALLS: [&str; 6] = [
+    "capread", "capwrite", "summary", "rewrite", "export", "import",
+];
 
 /// The board as the calls so far left it; none where a poke has changed it.
 struct Session(Option<Board>);
@@ -36,6 +39,8 @@ impl Session {
             }
             ["summary", capture] => Some(capture_calls::summarize(&bytes(capture))),
             ["rewrite", room, capture] => Some(capture_calls::rewrite(room, &bytes(capture))),
+            ["export", room, capture] => Some(table_calls::export(room, &bytes(capture))),
+            ["import", table] => Some(table_calls::import(&bytes(table))),
             ["poke", ..] => {
                 self.0 = None;
                 None

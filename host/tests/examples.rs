@@ -22,7 +22,7 @@ fn compile(name: &str) -> PathBuf {
         ])
         .arg(repository().join("include"))
         .arg(source)
-        .arg(env!("UDGORNWY_ARCHIVE"))
+        .arg(concat!(env!("UDGORNWY_ARCHIVES"), "/libfirmware.a"))
         .arg("-o")
         .arg(&program)
         .output()

@@ -1,4 +1,4 @@
-//! The header, as C and as C++: compiled without a warning, linked with the proved library, and its record laid out as the library's.
+//! The header, as C and as C++: compiled without a warning, linked with the proved libraries, and its record laid out as the library's.
 
 use std::io::Write;
 use std::path::Path;
@@ -8,7 +8,8 @@ use udgornwy::ffi::Board;
 
 /// Writes the last entry of the schedule, finds the request's ID, and looks for the entry where the header has it. Then keeps the request, and
 /// what is left of it without its last byte, in a capture of two boards: written at once and in turn, rewritten, taken apart, and counted through
-/// a window. A capture of version 1 is rewritten too: a board with a zero ID and an empty request.
+/// a window. A capture of version 1 is rewritten too: a board with a zero ID and an empty request. Of a capture with a response its table is
+/// written, whole and through a window, and read.
 const PROGRAM: &str = r#"
 #include <stdio.h>
 #include <string.h>
@@ -87,6 +88,80 @@ static void captures(const uint8_t *packet, size_t size)
     count(whole, opened.records, end);
 }
 
+/* The header, and the rows of all but the last byte and then of the rest. */
+static size_t written_in_windows(uint8_t *table, size_t room, uint8_t *window, size_t end)
+{
+    static uint8_t text[UDGORNWY_TEXT_PER_BYTE * ROOM];
+    udgornwy_opened opened = udgornwy_open_capture(window, end);
+    size_t length = udgornwy_table_header(table, room).length;
+    uint8_t last = window[end - 1];
+    udgornwy_exported_rows rows = udgornwy_export_window(text, sizeof text, window, ROOM, opened.records, end - 1, ids, IDS, 2, 2, 0);
+    memcpy(table + length, text, rows.length);
+    length += rows.length;
+    printf("%u %u %u %u %u, ", rows.refusal, rows.ending, (unsigned)rows.length, (unsigned)rows.refused, (unsigned)rows.left);
+    window[rows.left] = last;
+    rows = udgornwy_export_window(text, sizeof text, window, ROOM, 0, rows.left + 1, ids, IDS, 2, 2, rows.refused);
+    memcpy(table + length, text, rows.length);
+    printf("%u %u %u %u %u, ", rows.refusal, rows.ending, (unsigned)rows.length, (unsigned)rows.refused, (unsigned)rows.left);
+    printf("%u %u\n", udgornwy_export_window(text, 39, window, ROOM, 0, 1, ids, IDS, 2, 2, 0).refusal,
+           udgornwy_export_window(text, sizeof text, window, ROOM, 0, 1, ids, IDS, 3, 2, 0).refusal);
+    return length + rows.length;
+}
+
+static void read_table(const uint8_t *table, size_t size)
+{
+    udgornwy_opened_table opened = udgornwy_open_table(table, size);
+    udgornwy_opened_table cut = udgornwy_open_table(table, 47);
+    const uint8_t *end = table + size;
+    size_t left = opened.rest;
+    uint64_t line = opened.line;
+    udgornwy_table_row row;
+    printf("%u %u %u, %u %u %u\n", opened.refusal, (unsigned)line, (unsigned)left, cut.refusal, (unsigned)cut.line, (unsigned)cut.rest);
+    do {
+        uint8_t id[UDGORNWY_ID] = {0}, value[UDGORNWY_LONGEST_VALUE] = {0};
+        row = udgornwy_next_row(end - left, left, line);
+        if (row.kind == UDGORNWY_ROW) {
+            udgornwy_read_hex(id, sizeof id, end - row.board, 2 * sizeof id);
+            udgornwy_reply read = udgornwy_read_hex(value, sizeof value, end - row.value, row.value - row.value_end);
+            printf("%u %u, %u %u: %u %u\n", id[0], id[1], read.refusal, (unsigned)read.length, value[0], value[1]);
+        }
+        printf("%u: %u %u %u %lu %u %u\n", row.kind, row.page, row.low, row.refusal, (unsigned long)row.counter, (unsigned)row.line,
+               (unsigned)row.rest);
+        left = row.rest;
+        line = row.line;
+    } while (row.kind == UDGORNWY_ROW);
+}
+
+/* Of a response with a known and an unknown parameter, and of a packet that is no response. */
+static void tables(const uint8_t *request, size_t size)
+{
+    uint8_t packets[2 * UDGORNWY_LONGEST_PACKET] = {0xFD, 0xFD, 2, UDGORNWY_ID}, capture[ROOM], whole[1000], parts[1000];
+    static const uint8_t block[] = {0, 6, 0xFE, 2, 0x63, 0x46, 0, 0xFD, 0x65};
+    const size_t length = 4 + UDGORNWY_ID + sizeof block + 2;
+    const uint16_t lengths[] = {(uint16_t)length, (uint16_t)size};
+    static const uint8_t responses[] = {UDGORNWY_RESPONSE, UDGORNWY_RESPONSE};
+    memcpy(packets + 4 + UDGORNWY_ID, block, sizeof block);
+    unsigned sum = 0;
+    for (size_t i = 2; i < length - 2; i++)
+        sum += packets[i];
+    packets[length - 2] = (uint8_t)sum;
+    packets[length - 1] = (uint8_t)(sum >> 8);
+    memcpy(packets + length, request, size);
+    size_t end = udgornwy_write_capture(capture, ROOM, ids, IDS, indexes, 2, responses, 2, counters, 2, lengths, 2, packets, length + size).length;
+    udgornwy_exported exported = udgornwy_export_table(whole, sizeof whole, capture, end);
+    udgornwy_exported cut = udgornwy_export_table(parts, sizeof parts, capture, end - 1);
+    udgornwy_exported no_room = udgornwy_export_table(parts, exported.length - 1, capture, end);
+    printf("%u %u %u %u, %u %u %u %u, %u %u %u %u\n", exported.refusal, exported.capture, (unsigned)exported.length, (unsigned)exported.refused,
+           cut.refusal, cut.capture, (unsigned)cut.length, (unsigned)cut.refused, no_room.refusal, no_room.capture, (unsigned)no_room.length,
+           (unsigned)no_room.refused);
+    size_t in_windows = written_in_windows(parts, sizeof parts, capture, end);
+    printf("%d %u\n%.*s", in_windows == exported.length && memcmp(whole, parts, in_windows) == 0, udgornwy_table_header(parts, 47).refusal,
+           (int)exported.length, (const char *)whole);
+    read_table(whole, exported.length);
+    whole[exported.length - 3] = 'x';
+    read_table(whole, exported.length);
+}
+
 int main(void)
 {
     static const uint8_t id[UDGORNWY_ID] = {1}, password[] = {'1'}, functions[] = {2};
@@ -104,6 +179,7 @@ int main(void)
            last.speed, last.temperature, last.minute, last.hour);
     printf("%u: %u %u, %u: %u\n", parts.refusal, packet[parts.places.id], (unsigned)parts.places.end, cut.refusal, (unsigned)cut.places.end);
     captures(packet, request.length);
+    tables(packet, request.length);
     return 0;
 }
 "#;
@@ -123,6 +199,27 @@ const CAPTURES: &str = "\
 refused,53
 ";
 
+/// A table's length and count, without the capture's last byte too, and with a byte of room too few; by windows; its text; what it reads as, and
+/// with a quote that is none.
+const TABLES: &str = "\
+0 0 174 1, 0 53 174 0, 54 0 0 0
+0 0 126 0 42, 0 0 0 1 0, 54 51
+1 54
+\"board\",\"direction\",\"counter\",\"number\",\"value\"\r
+\"x01020000000000000000000000000000\",\"1\",\"1000\",\"0x0063\",\"x4600\"\r
+\"x01020000000000000000000000000000\",\"1\",\"1000\",\"0x0065\",\"x\"\r
+0 2 126, 60 1 0
+1 2, 0 2: 70 0
+0: 0 99 0 1000 3 61
+1 2, 0 0: 0 0
+0: 0 101 0 1000 4 0
+1: 0 0 0 0 0 0
+0 2 126, 60 1 0
+1 2, 0 2: 70 0
+0: 0 99 0 1000 3 61
+2: 0 0 61 0 3 0
+";
+
 fn compiled(compiler: &str, language: &str, standard: &str) -> String {
     let host = Path::new(env!("CARGO_MANIFEST_DIR"));
     let program = Path::new(env!("CARGO_TARGET_TMPDIR")).join(format!("header_{standard}"));
@@ -131,7 +228,8 @@ fn compiled(compiler: &str, language: &str, standard: &str) -> String {
         .args(["-Wall", "-Wextra", "-Wpedantic", "-Werror", "-I"])
         .arg(host.join("../include"))
         .args(["-x", language, "-", "-x", "none"])
-        .arg(env!("UDGORNWY_ARCHIVE"))
+        .arg(concat!(env!("UDGORNWY_ARCHIVES"), "/libfirmware.a"))
+        .arg(concat!(env!("UDGORNWY_ARCHIVES"), "/libdataset.a"))
         .arg("-o")
         .arg(&program)
         .stdin(Stdio::piped())
@@ -147,7 +245,7 @@ fn compiled(compiler: &str, language: &str, standard: &str) -> String {
 
 fn expected() -> String {
     let board = std::mem::size_of::<Board>();
-    format!("{board}: 0 0 0, 5 30 59 23\n0: 1 32, 4: 0\n{CAPTURES}")
+    format!("{board}: 0 0 0, 5 30 59 23\n0: 1 32, 4: 0\n{CAPTURES}{TABLES}")
 }
 
 #[test]

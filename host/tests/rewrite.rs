@@ -13,7 +13,8 @@ use std::thread::sleep;
 use std::time::{Duration, Instant};
 use udgornwy::capture::WINDOW;
 use udgornwy::ffi::captures::{self, Next, Rewritten, BAD_RECORD, LONGEST_HEAD};
-use udgornwy::rewrite::{self, Failure};
+use udgornwy::new_file::Failure;
+use udgornwy::rewrite;
 
 const REWRITE: [&str; 3] = ["rewrite", "old", "new"];
 const REWRITE_PIPE: [&str; 3] = ["rewrite", "-", "new"];

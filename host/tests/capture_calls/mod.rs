@@ -5,12 +5,13 @@ use std::io::{self, Read};
 use udgornwy::ffi::captures::{self, Head, Next, Record, Rewritten, BAD_RECORD, COUNTS};
 use udgornwy::ffi::ID_SIZE;
 use udgornwy::hex::digits;
+use udgornwy::new_file::Failure;
 use udgornwy::refusal::Refusal;
-use udgornwy::rewrite::{self, Failure};
+use udgornwy::rewrite;
 use udgornwy::summary;
 
 /// What each byte of a buffer is before the call.
-const FILLER: u8 = 0xA5;
+pub const FILLER: u8 = 0xA5;
 
 pub fn read(capture: &[u8]) -> String {
     let head = match captures::open_capture(capture) {
@@ -81,7 +82,7 @@ pub fn write(room: &str, ids: &str, records: &[&str]) -> String {
 }
 
 /// Of the bytes that a call leaves as they were.
-fn dirty(rest: &[u8]) -> &'static str {
+pub fn dirty(rest: &[u8]) -> &'static str {
     match rest.iter().all(|byte| *byte == FILLER) {
         true => "",
         false => " dirty",
@@ -184,13 +185,13 @@ fn count_whole(capture: &[u8]) -> Vec<u8> {
 }
 
 /// A reader that gives one byte, then two, then three, up to more than a record has.
-struct Pieces<'a> {
+pub struct Pieces<'a> {
     rest: &'a [u8],
     size: usize,
 }
 
 impl Pieces<'_> {
-    fn of(bytes: &[u8]) -> Pieces<'_> {
+    pub fn of(bytes: &[u8]) -> Pieces<'_> {
         Pieces {
             rest: bytes,
             size: 1,
