@@ -11,12 +11,13 @@ use Rattle.counts.specs.Counting.{endOf}
 use Rattle.tables.specs.Rows.{headerLine}
 use Rattle.tables.specs.Exporting.{refusedCount, exportOf, refusedIn, captureNumber}
 use Rattle.tables.specs.Importing.{bytesIn}
-use Rattle.exporting.specs.Exporting.{capped, exportedAs, WindowCall, windowCall, windowReading, windowLines, textShort, ExportsWindow}
+use Rattle.exporting.specs.Exporting.{capped, exportedAs, exportedNumber, WindowCall, windowCall, windowReading, windowLines, textShort, ExportsWindow}
 use Rattle.exporting.specs.declared.Exported.{Exported}
 use Rattle.exporting.specs.declared.Exported.the-variants as exported
 use Rattle.exporting.specs.declared.window.Rows.{Rows}
 use Rattle.exporting.specs.declared.window.Rows.the-variants as rows
 use Rattle.importing.specs.Hex.{readable}
+use Rattle.importing.specs.Reading.{openedNumber, nextNumber}
 use Rattle.importing.specs.declared.reading.NextRow.{NextRow}
 use Rattle.importing.specs.declared.reading.NextRow.the-variants as next
 use Rattle.importing.specs.declared.reading.Opened.{Opened}
@@ -38,7 +39,7 @@ WritesTableHeader buffer reply after = WritesInNumbers (refusedUnless (fits buff
 abbrev pub exportedInNumbers : Exported → ExportedTable
 exportedInNumbers (exported.Table length refused capture) =
     record { refusal = 0; capture = capture; length = length; refused = refused }
-exportedInNumbers exported.NoRoom = record { refusal = 54; capture = 0; length = 0; refused = 0 }
+exportedInNumbers exported.NoRoom = record { refusal = exportedNumber exported.NoRoom; capture = 0; length = 0; refused = 0 }
 
 -- the contract of `udgornwy_export_table`
 pub record ExportsInNumbers (buffer capture : List ℕ) (answer : ExportedTable) (after : List ℕ) : Type 0 where
@@ -81,7 +82,7 @@ ExportsNumbered Unknown text window start end ids boards refused answer after mo
 -- refusal 0: the header stands
 abbrev pub openedTable : Opened → OpenedTable
 openedTable (opened.Table rest line) = record { refusal = 0; line = line; rest = rest }
-openedTable (opened.Refused number line) = record { refusal = number; line = line; rest = 0 }
+openedTable (opened.Refused number line) = record { refusal = openedNumber (opened.Refused number line); line = line; rest = 0 }
 
 abbrev pub noRow : ℕ → ℕ → ℕ → TableRow
 noRow kind refusal line =
@@ -114,7 +115,7 @@ rowInNumbers (next.Row board counter page low value value-end rest line) =
       rest = rest;
     }
 rowInNumbers next.End = noRow 1 0 0
-rowInNumbers (next.Refused number line) = noRow 2 number line
+rowInNumbers (next.Refused number line) = noRow 2 (nextNumber (next.Refused number line)) line
 
 -- the contract of `udgornwy_read_hex`; 63: other digits, or no room
 abbrev pub ReadsHexInNumbers : List ℕ → List ℕ → Reply → List ℕ → Type 0

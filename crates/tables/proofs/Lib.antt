@@ -3,6 +3,7 @@ pub mod Fields
 pub mod Digits
 pub mod Imports
 pub mod Records
+pub mod Counting
 pub mod Reported
 pub mod InForm
 pub mod Ends

@@ -1,7 +1,7 @@
 -- What holds of tables, beside the contracts of the code that writes and reads them.
-use Prim.Native.Nat.{ℕ, _*_, _<_, _≤_}
+use Prim.Native.Nat.{ℕ, _+_, _*_, _<_, _≤_}
 use mathlib.Core.Bool.{true, false}
-use mathlib.Core.List.{List, [], _∷_, map}
+use mathlib.Core.List.{List, [], _∷_, _++_, map}
 use mathlib.Core.Option.{none, some}
 use mathlib.Core.Path.{_≡_}
 use lib.ListN.{length, take, drop}
@@ -12,8 +12,8 @@ use Rattle.tool.specs.Response.{anyResponseRefusal, reportsOf}
 use Rattle.tables.specs.Lines.{Line, lineOf, lines}
 use Rattle.tables.specs.Fields.{quoted}
 use Rattle.tables.specs.Rows.{Row, rowOf, rowFields, headerFields, tableOf}
-use Rattle.tables.specs.Exporting.{isResponse, recordRows, rowsOf, exportOf}
-use Rattle.tables.specs.Importing.{counterLimit, Imported, end, row, importOf, rowsGiven, isWhole}
+use Rattle.tables.specs.Exporting.{isResponse, rowsFrom, refusedCount, rowsOf, exportOf}
+use Rattle.tables.specs.Importing.{counterLimit, Imported, end, refused, row, importFrom, importOf, rowsGiven, isWhole}
 
 -- a report that a response can hold
 abbrev pub Reported : Report → Type 0
@@ -38,16 +38,25 @@ allRows [] = end
 allRows (r ∷ rs) = row r (allRows rs)
 
 -- a request has no row, and neither has a response that is refused; one that is accepted has a row for each of its reports, in order, with
--- the ID that the capture has for its index
+-- the ID that the capture has for its index. Refused responses alone are counted
 pub record Exported (ids : List ℕ) (r : Record) : Type 0 where
-  pub request : isResponse r ≡ false → recordRows ids r ≡ []
-  pub refused-none : (number : ℕ) → anyResponseRefusal (r .packet) ≡ some number → recordRows ids r ≡ []
+  pub request : isResponse r ≡ false → (rowsFrom ids (r ∷ []) ≡ []) × (refusedCount (r ∷ []) ≡ 0)
+  pub refused :
+      (number : ℕ) → isResponse r ≡ true → anyResponseRefusal (r .packet) ≡ some number
+      → (rowsFrom ids (r ∷ []) ≡ []) × (refusedCount (r ∷ []) ≡ 1)
   pub accepted :
       (reports : List Report) → isResponse r ≡ true → anyResponseRefusal (r .packet) ≡ none → reportsOf (r .packet) ≡ some reports
-      → recordRows ids r ≡ map (rowOf (take 16 (drop (16 * r .index) ids)) 1 (r .counter)) reports
+      → (rowsFrom ids (r ∷ []) ≡ map (rowOf (take 16 (drop (16 * r .index) ids)) 1 (r .counter)) reports) × (refusedCount (r ∷ []) ≡ 0)
 
 abbrev pub RecordsExported : Type 0
 RecordsExported = (ids : List ℕ) (r : Record) → Exported ids r
+
+-- the rows of records are those of each of them, in their order, and so is the count
+abbrev pub RowsJoin : Type 0
+RowsJoin =
+    (ids : List ℕ) (first second : List Record)
+    → (rowsFrom ids (first ++ second) ≡ rowsFrom ids first ++ rowsFrom ids second)
+    × (refusedCount (first ++ second) ≡ refusedCount first + refusedCount second)
 
 -- the rows of a capture can be held by a table
 abbrev pub RowsExportable : Type 0
@@ -77,3 +86,15 @@ pub record InForm (text : List ℕ) : Type 0 where
 
 abbrev pub ImportsInForm : Type 0
 ImportsInForm = (text : List ℕ) → InForm text
+
+-- the line of the refusal; 0 where there is none
+unfoldable pub lineOfRefusal : Imported → ℕ
+lineOfRefusal end = 0
+lineOfRefusal (refused number line) = line
+lineOfRefusal (row r after) = lineOfRefusal after
+
+-- from a line on, the line that is refused comes after one line for each row before it
+abbrev pub LinesCounted : Type 0
+LinesCounted =
+    (line : ℕ) (ls : List Line) → isWhole (importFrom line ls) ≡ false
+    → lineOfRefusal (importFrom line ls) ≡ line + length (rowsGiven (importFrom line ls))
