@@ -18,10 +18,10 @@ use Rattle.block.specs.Command.{Command}
 use Rattle.block.specs.Encoding.{encodableReport, encodeReports, every}
 use Rattle.block.specs.Request.{commands, onlyReads}
 use Rattle.block.proofs.AllReads.{other-named}
-use Rattle.board.specs.Answering.{Leaves, answered, answeredAs, inIdentity, judged, judgedBy, refusedWith, requestChecks, respondedIn, respondedWith, responseOf, scopeOf}
+use Rattle.board.specs.Answering.{Leaves, answered, answeredAs, inIdentity, judged, judgedBy, refusedWith, requestTo, requestChecks, respondedIn, respondedWith, responseOf, scopeOf}
 use Rattle.model.specs.Commands.{run}
 use Rattle.commands.specs.Draft.{blank, exceeded, extended, runFrom, runBlock, runResult, runReportsIn, taken}
-use Rattle.model.specs.Record.{passwordOf, setUp, startBoard, withParameters}
+use Rattle.model.specs.Record.{passwordOf, withParameters}
 use Rattle.model.specs.Step.{Call, Outcome, Request, Steps, step, outcomeOf, isDiscovery, wrongPassword, malformed, discoveryWrites, requestOf, requestRefusals}
 use Rattle.model.specs.declared.Answer.{Answer}
 use Rattle.model.specs.declared.Answer.the-variants.{Response, Silence}
@@ -86,7 +86,7 @@ module _ (ran : RunResult) (r : Request) (buffer : List ℕ) where
 pub own-password : (password : List ℕ) → password ≡ take (length password) (password ++ replicate (8 - length password) 0)
 own-password password = sym (take-at password _ _ refl)
 
-pub judged-by-identity : (board : Board) (f : Frame) → judged (requestOf (startBoard (setUp (board .id) (passwordOf board) (board .mode))) f) ≡ judged (requestOf board f)
+pub judged-by-identity : (board : Board) (f : Frame) → judged (requestTo (board .id) (passwordOf board) (board .mode) f) ≡ judged (requestOf board f)
 unfolding requestRefusals firstRefusal
 judged-by-identity board f = rw (← own-password (passwordOf board))
 

@@ -6,7 +6,7 @@ use mathlib.Core.Bool.{Bool, true, false, cond, not, _&&_, _||_}
 use mathlib.Core.List.{List, [], _∷_, _++_}
 use mathlib.Core.Option.{Option, none, some, orElse, Option·getD}
 use mathlib.Core.Path.{_≡_, refl, sym, ap, _∙_}
-use borrow.Author.Tests.{leb-false, ltb-true, ltb-false, eqb-true, le-leb, lt-leb, lt-ltb, le-ltb, eq-eqb, ne-eqb, not-false}
+use borrow.Author.Tests.{leb-true, leb-false, ltb-true, ltb-false, eqb-true, le-leb, lt-leb, lt-ltb, le-ltb, eq-eqb, ne-eqb, not-false}
 use lib.Dec.{leb, ltb, eqb}
 use lib.ListN.{length, take, drop, replicate, length-append, length-replicate}
 use lib.Seq.{take-at}
@@ -24,12 +24,13 @@ use Rattle.block.specs.Request.{onlyReads}
 use Rattle.block.proofs.AllReads.{all-reads, other-named}
 use Rattle.block.proofs.Decoded.{isLow, low-bytes}
 use Rattle.store.specs.Layout.{valueOf}
-use Rattle.store.specs.Rows.{rows, indexIn, known}
+use Rattle.rows.specs.Rows.{known}
+use Rattle.rows.proofs.Found.{identity-known}
 use Rattle.store.specs.Sound as stored
 use Rattle.board.specs.Answering.{answered, answeredAs, judgedBy, refusedWith, requestChecks, respondedWith, responded, scopeOf}
 use Rattle.model.specs.Commands.{afterCommand, reported, run, runReports, discovered, discoverReports}
 use Rattle.commands.specs.Draft.{blank, taken, extended, exceeded, reportedIn, runReportsIn, selected, runResult, runFrom}
-use Rattle.model.specs.Record.{sound, micra, withParameters}
+use Rattle.model.specs.Record.{sound, isUnit, unitType, unitOf, withParameters}
 use Rattle.model.specs.Conditions.{otherThanReads}
 use Rattle.model.specs.Step.{Request, isDiscovery, decoded, reportsOf, malformed, longResponse, requestRefusals, Outcome, outcomeOf, nextBoard, answerWith, outcomeBy}
 use Rattle.model.specs.declared.Answer.the-variants.{Silence, Response}
@@ -56,38 +57,29 @@ unfolding runReportsIn runReports
 all-reports [] p = refl
 all-reports (c ∷ cs) p = ap (λ (rs : List Report). reported (afterCommand p c) c ++ rs) (all-reports cs (afterCommand p c))
 
--- the rows of the identity are known
-id-known : known 0x007C ≡ true
-unfolding rows indexIn
-id-known = refl
-
-type-known : known 0x00B9 ≡ true
-unfolding rows indexIn
-type-known = refl
-
 -- a read of a known parameter
 read-held :
-    (p : Parameters) (c : Command) (n : ℕ) (value : List ℕ) → isRead c ≡ true → commandNumber c ≡ n → known n ≡ true → valueOf (p .store) n ≡ value
+    (p : Parameters) (c : Command) (n : ℕ) (value : List ℕ) → isRead c ≡ true → commandNumber c ≡ n → known (p .store .unit) n ≡ true → valueOf (p .store) n ≡ value
     → reported p c ≡ held (c .page) (c .low) value ∷ []
 read-held p c n value read named is-known e =
-    values-reported p c .value (ap (λ (f : ℕ). eqb f 2) (eqb-true (c .function) 1 read)) (ap known named ∙ is-known)
+    values-reported p c .value (ap (λ (f : ℕ). eqb f 2) (eqb-true (c .function) 1 read)) (ap (known (p .store .unit)) named ∙ is-known)
     ∙ ap (λ (v : List ℕ). held (c .page) (c .low) v ∷ []) (ap (valueOf (p .store)) named ∙ e)
 
 -- the reports of a discovery
-module _ (id : List ℕ) (p : Parameters) (own-id : valueOf (p .store) 0x007C ≡ id) (unit-type : valueOf (p .store) 0x00B9 ≡ micra) where
-  identity-report : (c : Command) → isRead c ≡ true → reportedIn Identity p c ≡ discovered id c
+module _ (id : List ℕ) (p : Parameters) (unit : isUnit (p .store .unit) ≡ true) (own-id : valueOf (p .store) 0x007C ≡ id) (unit-type : valueOf (p .store) 0x00B9 ≡ unitType (p .store .unit)) where
+  identity-report : (c : Command) → isRead c ≡ true → reportedIn Identity p c ≡ discovered id (p .store .unit) c
   unfolding discovered
   identity-report c read = by-number (eqb (commandNumber c) 0x007C) (eqb (commandNumber c) 0x00B9) refl refl
     where
       by-number :
           (is-id is-type : Bool) → eqb (commandNumber c) 0x007C ≡ is-id → eqb (commandNumber c) 0x00B9 ≡ is-type
           → cond (is-id || is-type) (reported p c) []
-          ≡ cond is-id (held (c .page) (c .low) id ∷ []) (cond is-type (held (c .page) (c .low) micra ∷ []) [])
-      by-number true is-type e other = read-held p c 0x007C id read (eqb-true _ _ e) id-known own-id
-      by-number false true e other = read-held p c 0x00B9 micra read (eqb-true _ _ other) type-known unit-type
+          ≡ cond is-id (held (c .page) (c .low) id ∷ []) (cond is-type (held (c .page) (c .low) (unitType (p .store .unit)) ∷ []) [])
+      by-number true is-type e other = read-held p c 0x007C id read (eqb-true _ _ e) (identity-known (p .store .unit) unit .0) own-id
+      by-number false true e other = read-held p c 0x00B9 (unitType (p .store .unit)) read (eqb-true _ _ other) (identity-known (p .store .unit) unit .1) unit-type
       by-number false false e other = refl
 
-  identity-reports : (cs : List Command) → every isRead cs ≡ true → runReportsIn Identity p cs ≡ discoverReports id cs
+  identity-reports : (cs : List Command) → every isRead cs ≡ true → runReportsIn Identity p cs ≡ discoverReports id (p .store .unit) cs
   unfolding runReportsIn discoverReports every
   identity-reports [] h = refl
   identity-reports (c ∷ cs) h =
@@ -245,9 +237,9 @@ module _ (r : Request) (buffer : List ℕ) (legal : sound (r .board) ≡ true) (
         ∙ sym (defined said (run (r .board .parameters) cs) reports next)
 
     reports-by : {discovery : Bool} {cs : List Command} → isDiscovery r ≡ discovery → decoded r ≡ some cs
-        → reportsOf r ≡ cond discovery (discoverReports (r .board .id) cs) (runReports (r .board .parameters) cs)
+        → reportsOf r ≡ cond discovery (discoverReports (r .board .id) (unitOf (r .board)) cs) (runReports (r .board .parameters) cs)
     reports-by d e =
-        λ i. cond (d i) (discoverReports (r .board .id) (Option·getD (e i) [])) (runReports (r .board .parameters) (Option·getD (e i) []))
+        λ i. cond (d i) (discoverReports (r .board .id) (unitOf (r .board)) (Option·getD (e i) [])) (runReports (r .board .parameters) (Option·getD (e i) []))
 
     next-by : {discovery : Bool} {cs : List Command} → isDiscovery r ≡ discovery → decoded r ≡ some cs
         → nextBoard r ≡ cond discovery (r .board) (withParameters (r .board) (run (r .board .parameters) cs))
@@ -262,7 +254,7 @@ module _ (r : Request) (buffer : List ℕ) (legal : sound (r .board) ≡ true) (
         let (cs, e, all) = all-reads (r .frame .function) (r .frame .block) (not-false _ only) in
         let parts = sound-parts (r .board) legal in
         run-responds Identity cs e
-        (reports-by d e ∙ sym (identity-reports (r .board .id) (r .board .parameters) (parts .own-id) (parts .unit-type) cs all))
+        (reports-by d e ∙ sym (identity-reports (r .board .id) (r .board .parameters) (parts .unit) (parts .own-id) (parts .unit-type) cs all))
         (next-by d e ∙ ap (withParameters (r .board)) (sym (reads-keep cs (r .board .parameters) all)))
     responds-by false d formed reads =
         let (cs, e) = some-commands (decoded r) formed in

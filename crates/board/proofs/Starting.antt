@@ -14,11 +14,12 @@ use Rattle.octets.specs.Octets.{Overwrites, same}
 use Rattle.octets.proofs.Booleans.{both-true}
 use Rattle.framing.specs.Identity.{allAlphanumeric, isPassword}
 use Rattle.framing.specs.Refusal.{firstRefusal}
-use Rattle.store.specs.Layout.{sizeOf, valueOf}
+use Rattle.rows.specs.Layout.{sizeOf}
+use Rattle.store.specs.Layout.{valueOf}
 use Rattle.store.specs.Sound as rows
 use Rattle.schedule.specs.Entries as entries
 use Rattle.store.specs.Operations.{measurable, measurement as measurementOf, refusalOf}
-use Rattle.store.specs.Rows.{rowOf}
+use Rattle.rows.specs.Rows.{rowOf}
 use Rattle.store.specs.declared.Measurement.{Measurement}
 use Rattle.store.specs.declared.Measurement.the-variants as measurement
 use Rattle.store.proofs.Measurement as Measurement
@@ -26,7 +27,7 @@ use denote.Enum.Declared.{tagOf}
 use types.Run.{OneOf}
 use mathlib.Core.Logic.{_⊎_, ⊎-elim}
 use Rattle.model.specs.Measurement.{MeasureCall, MeasuresBoard, measureRefusal, measureRefusals, measuredBoard, measuredBy}
-use Rattle.model.specs.Record.{sound, micra, passwordOf, SetUp, SetsUp, isId, isMode, setUpBoard, setUpRefusal, setUpRefusals, startBoard, unset, verdictOf, boardOf}
+use Rattle.model.specs.Record.{sound, isUnit, unitType, unitOf, entriesSound, passwordOf, SetUp, SetsUp, isId, isMode, setUpBoard, setUpRefusal, setUpRefusals, startBoard, unset, verdictOf, boardOf}
 use Rattle.model.specs.declared.Answered.{Answered}
 use Rattle.model.specs.declared.Board.{Board}
 use Rattle.model.specs.declared.Verdict.the-variants.{Accepted, Refused}
@@ -48,12 +49,13 @@ laid-whole size bytes e done =
     let full : size - length bytes ≡ 0 = omega arith in
     laid-by size bytes (omega arith) done ∙ rw (full, append-nil)
 
--- the refusal of a set-up by its three conditions
+-- the refusal of a set-up by its four conditions
 pub set-up-refusal-by :
-    (given : SetUp) {id-wrong password-wrong mode-wrong : Bool} → not (isId (given .id)) ≡ id-wrong → not (isPassword (given .password)) ≡ password-wrong
-    → not (isMode (given .mode)) ≡ mode-wrong → setUpRefusal given ≡ cond id-wrong (some 20) (cond password-wrong (some 21) (cond mode-wrong (some 22) none))
+    (given : SetUp) {id-wrong password-wrong mode-wrong unit-wrong : Bool} → not (isId (given .id)) ≡ id-wrong
+    → not (isPassword (given .password)) ≡ password-wrong → not (isMode (given .mode)) ≡ mode-wrong → not (isUnit (given .unit)) ≡ unit-wrong
+    → setUpRefusal given ≡ cond id-wrong (some 20) (cond password-wrong (some 21) (cond mode-wrong (some 22) (cond unit-wrong (some 23) none)))
 unfolding setUpRefusal setUpRefusals firstRefusal
-set-up-refusal-by given a b c = λ i. cond (a i) (some 20) (cond (b i) (some 21) (cond (c i) (some 22) none))
+set-up-refusal-by given a b c d = λ i. cond (a i) (some 20) (cond (b i) (some 21) (cond (c i) (some 22) (cond (d i) (some 23) none)))
 
 pub refused-set-up : (given : SetUp) {result : Answered} {number : ℕ} → setUpRefusal given ≡ some number → (result .board ≡ startBoard unset) × (result .verdict ≡ Refused number) → SetsUp given result
 unfolding setUpBoard
@@ -70,8 +72,8 @@ right-lengths given id-right password-right =
 
 -- the refusal of a measurement by its three conditions
 pub measure-refusal-by :
-    (c : MeasureCall) {record-wrong row-wrong length-wrong : Bool} → not (sound (c .board)) ≡ record-wrong → not (measurable (c .number)) ≡ row-wrong
-    → not (eqb (length (c .value)) (sizeOf (rowOf (c .number) .set))) ≡ length-wrong
+    (c : MeasureCall) {record-wrong row-wrong length-wrong : Bool} → not (sound (c .board)) ≡ record-wrong → not (measurable (unitOf (c .board)) (c .number)) ≡ row-wrong
+    → not (eqb (length (c .value)) (sizeOf (rowOf (unitOf (c .board)) (c .number) .set))) ≡ length-wrong
     → measureRefusal c ≡ cond record-wrong (some 70) (cond row-wrong (some 30) (cond length-wrong (some 31) none))
 unfolding measureRefusal measureRefusals firstRefusal
 measure-refusal-by c a b d = λ i. cond (a i) (some 70) (cond (b i) (some 30) (cond (d i) (some 31) none))
@@ -94,12 +96,12 @@ accepted-by true true e h = refl
 accepted-by true false e h = cc
 accepted-by false size e h = cc
 
-module _ (c : MeasureCall) (right : not (sound (c .board)) ≡ false) {answer : Measurement} (asked : answer ≡ measurementOf (c .number) (c .value)) where
+module _ (c : MeasureCall) (right : not (sound (c .board)) ≡ false) {answer : Measurement} (asked : answer ≡ measurementOf (unitOf (c .board)) (c .number) (c .value)) where
   pub measure-refused : OneOf (1 ∷ 2 ∷ []) (tagOf Measurement.the-type answer) → measureRefusal c ≡ some (refusalOf answer)
-  measure-refused h = measure-refusal-by c right refl refl ∙ refused-by (measurable (c .number)) (eqb (length (c .value)) (sizeOf (rowOf (c .number) .set))) asked h
+  measure-refused h = measure-refusal-by c right refl refl ∙ refused-by (measurable (unitOf (c .board)) (c .number)) (eqb (length (c .value)) (sizeOf (rowOf (unitOf (c .board)) (c .number) .set))) asked h
 
   pub measure-accepted : answer ≡ measurement.Accepted → measureRefusal c ≡ none
-  measure-accepted h = measure-refusal-by c right refl refl ∙ accepted-by (measurable (c .number)) (eqb (length (c .value)) (sizeOf (rowOf (c .number) .set))) asked h
+  measure-accepted h = measure-refusal-by c right refl refl ∙ accepted-by (measurable (unitOf (c .board)) (c .number)) (eqb (length (c .value)) (sizeOf (rowOf (unitOf (c .board)) (c .number) .set))) asked h
 
 -- the contract, by the refusal
 pub measured-as : (c : MeasureCall) {refusal : Option ℕ} {result : Answered} → measureRefusal c ≡ refusal → result .verdict ≡ verdictOf refusal → result .board ≡ measuredBy refusal c → MeasuresBoard c result
@@ -124,18 +126,24 @@ module _ (board : Board) where
   unfolding sound
   unsound-mode h = rw (h, and-false)
 
-  pub unsound-entries : entries.sound (board .parameters .schedule) ≡ false → sound board ≡ false
+  pub unsound-entries : (isUnit (unitOf board) && entriesSound (board .parameters)) ≡ false → sound board ≡ false
   unfolding sound
-  unsound-entries h = rw (h, and-false)
+  unsound-entries h = by (isUnit (unitOf board)) refl h
+    where
+      by : (unit : Bool) → isUnit (unitOf board) ≡ unit → (unit && entriesSound (board .parameters)) ≡ false → sound board ≡ false
+      by true e k = rw (k, and-false)
+      by false e k = rw (e, and-false)
 
   pub sound-rows :
       isId (board .id) ≡ true → leb (board .size) 8 ≡ true → allAlphanumeric (passwordOf board) ≡ true → isMode (board .mode) ≡ true
-      → Sized (board .parameters) → entries.sound (board .parameters .schedule) ≡ true
+      → Sized (board .parameters) → (isUnit (unitOf board) && entriesSound (board .parameters)) ≡ true
       → sound board
       ≡ (rows.sound (board .parameters .store) && same (valueOf (board .parameters .store) 0x007C) (board .id)
-      && same (valueOf (board .parameters .store) 0x00B9) micra)
+      && same (valueOf (board .parameters .store) 0x00B9) (unitType (unitOf board)))
   unfolding sound
-  sound-rows a b c d sized e = rw (a, b, c, d, sized .store, sized .schedule, e)
+  sound-rows a b c d sized e =
+      let both = both-true (isUnit (unitOf board)) (entriesSound (board .parameters)) e in
+      rw (a, b, c, d, sized .store, sized .schedule, both .0, both .1)
 
 -- a password that is short enough is judged by its characters
 pub wrong-characters : (password : List ℕ) → length password ≤ 8 → isPassword password ≡ false → allAlphanumeric password ≡ false

@@ -11,8 +11,8 @@ use Rattle.framing.specs.Frame.{Frame, frame, packetOf}
 use Rattle.framing.specs.Packet.{writable}
 use Rattle.framing.specs.Refusal.{Refusal, firstRefusal}
 use Rattle.commands.specs.Draft.{runBlock}
-use Rattle.model.specs.Record.{withParameters}
-use Rattle.model.specs.Step.{Request, Outcome, outcomeOf, isDiscovery, requestRefusals}
+use Rattle.model.specs.Record.{setUp, startBoard, withParameters}
+use Rattle.model.specs.Step.{Request, requestOf, Outcome, outcomeOf, isDiscovery, requestRefusals}
 use Rattle.model.specs.declared.Answer.the-variants.{Refused, Silence, Response}
 use Rattle.model.specs.declared.Stepped.{Stepped}
 use Rattle.board.specs.declared.packets.Judged.{Judged}
@@ -50,6 +50,10 @@ respondedWith ran r buffer = respondedIn (ran .draft .room) ran r buffer
 
 abbrev pub responded : Scope → Request → List ℕ → Outcome
 responded scope r buffer = respondedWith (runBlock scope (r .board .parameters) (r .frame .function) (r .frame .block)) r buffer
+
+-- a request to a board of an ID, a password and a mode: the checks 7 to 11 look at nothing else of a board, so that any unit type serves
+abbrev pub requestTo : List ℕ → List ℕ → ℕ → Frame → Request
+requestTo id password mode f = requestOf (startBoard (setUp id password mode 2)) f
 
 -- the refusals of a request but the last, 12, which is its response's
 abbrev pub requestChecks : List (Refusal Request)

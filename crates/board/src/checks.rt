@@ -10,7 +10,7 @@ ghost use Rattle.block.specs.Command.{isFunction};
 ghost use Rattle.block.specs.Request.{wellFormed, onlyReads};
 ghost use Rattle.framing.specs.Refusal.{checked};
 ghost use Rattle.board.specs.Answering.{scopeOf, inIdentity};
-ghost use Rattle.model.specs.Record.{client, isId, isMode};
+ghost use Rattle.model.specs.Record.{client, isId, isMode, isUnit};
 
 // Refusal 20: an ID has 16 bytes and is not the default ID.
 pub(crate) fn check_id(id: &[u8]) -> Check
@@ -41,6 +41,13 @@ pub(crate) fn check_mode(mode: u8) -> Check
         2 => Check::Passed,
         _ => Check::Failed,
     }
+}
+
+// Refusal 23: the unit type is 2 (Micra), or 3, 4 or 5 (VENTO Expert).
+pub(crate) fn check_unit(unit: u8) -> Check
+    ensures { λ r. ⌜ r ≡ checked (not (isUnit unit)) ⌝ }
+{
+    framing::passed_if(octets::is_between(2, 5, unit))
 }
 
 // Refusal 1: the response buffer has room for the longest packet.

@@ -11,11 +11,12 @@ ghost use Rattle.model.specs.Measurement.{MeasuresBoard, measureCall};
 ghost use Rattle.model.specs.Record.{SetsUp, setUp};
 ghost use Rattle.model.specs.Step.{Steps, call};
 
-// Sets a board up with an ID, a password and the mode in force. A refused set-up gives a board too: zero ID, no password, client.
-pub fn set_up(id: &[u8], password: &[u8], mode: u8) -> Answered
-    ensures { λ r. ⌜ SetsUp (setUp (now (id .entry)) (now (password .entry)) mode) r ⌝ }
+// Sets a board up with an ID, a password, the mode in force and its unit type. A refused set-up gives a board too: zero ID, no password,
+// client, Micra.
+pub fn set_up(id: &[u8], password: &[u8], mode: u8, unit: u8) -> Answered
+    ensures { λ r. ⌜ SetsUp (setUp (now (id .entry)) (now (password .entry)) mode unit) r ⌝ }
 {
-    records::set_up(id, password, mode)
+    records::set_up(id, password, mode, unit)
 }
 
 // Takes a packet of any length. A response fills the first bytes of `response`; with any other answer the buffer stays as it was.

@@ -12,8 +12,7 @@ use model::Stepped;
 ghost use Prim.Native.Nat.{_≤_};
 ghost use mathlib.Core.Path.{_≡_};
 ghost use Rattle.framing.specs.Frame.{frame};
-ghost use Rattle.board.specs.Answering.{Leaves, answered, judged, judgedNumber, responded};
-ghost use Rattle.model.specs.Record.{setUp, startBoard};
+ghost use Rattle.board.specs.Answering.{Leaves, answered, judged, judgedNumber, requestTo, responded};
 ghost use Rattle.model.specs.Step.{Steps, call, requestOf};
 
 // What the checks make of a request: the number of its refusal, or which parameters it may have reported.
@@ -79,7 +78,7 @@ fn judge(
     function: u8,
     bytes: &[u8],
 ) -> Judged
-    ensures { λ r. ⌜ r ≡ judged (requestOf (startBoard (setUp (now (own .entry)) (now (secret .entry)) mode)) (frame (now (id .entry)) (now (password .entry)) function (now (bytes .entry)))) ⌝ }
+    ensures { λ r. ⌜ r ≡ judged (requestTo (now (own .entry)) (now (secret .entry)) mode (frame (now (id .entry)) (now (password .entry)) function (now (bytes .entry)))) ⌝ }
 {
     let Check::Passed = checks::check_address(own, id) else {
         return Judged::Refused(7);

@@ -20,7 +20,7 @@ ghost use Rattle.store.specs.Start.{start as startRows};
 ghost use Rattle.schedule.specs.Entries.{start as startEntries};
 ghost use Rattle.framing.specs.Refusal.{checked};
 ghost use Rattle.model.specs.Measurement.{MeasuresBoard, measureCall};
-ghost use Rattle.model.specs.Record.{SetsUp, micra, parametersOf, setUp, sound, startBoard, unset, withParameters};
+ghost use Rattle.model.specs.Record.{SetsUp, entriesSound, isUnit, parametersOf, setUp, sound, startBoard, unitType, unset, withParameters};
 
 fn padded_id(bytes: &[u8]) -> [u8; framing::ID_SIZE]
     requires { ⌜ length (now bytes) ≡ 16 ⌝ }
@@ -41,19 +41,19 @@ fn padded_password(bytes: &[u8]) -> [u8; framing::LONGEST_PASSWORD]
 }
 
 // The rows and the schedule as set-up leaves them.
-fn start_parameters(id: [u8; framing::ID_SIZE]) -> Parameters
-    ensures { λ r. ⌜ r ≡ parametersOf (startRows id) startEntries ⌝ }
+fn start_parameters(id: [u8; framing::ID_SIZE], unit: u8) -> Parameters
+    ensures { λ r. ⌜ r ≡ parametersOf (startRows id unit) startEntries ⌝ }
 {
     Parameters {
-        store: store::start(id),
+        store: store::start(id, unit),
         schedule: schedule::start(),
     }
 }
 
 // The start record of an ID of 16 bytes and a password of at most 8.
-fn start(id: &[u8], password: &[u8], mode: u8) -> Board
+fn start(id: &[u8], password: &[u8], mode: u8, unit: u8) -> Board
     requires { ⌜ (length (now id) ≡ 16) × (length (now password) ≤ 8) ⌝ }
-    ensures { λ r. ⌜ r ≡ startBoard (setUp (now (id .entry)) (now (password .entry)) mode) ⌝ }
+    ensures { λ r. ⌜ r ≡ startBoard (setUp (now (id .entry)) (now (password .entry)) mode unit) ⌝ }
 {
     let own = padded_id(id);
     let secret = padded_password(password);
@@ -62,24 +62,24 @@ fn start(id: &[u8], password: &[u8], mode: u8) -> Board
         password: secret,
         size: password.len() as u8,
         mode,
-        parameters: start_parameters(own),
+        parameters: start_parameters(own, unit),
     }
 }
 
-// A refused set-up still gives a board: a zero ID, no password, client.
+// A refused set-up still gives a board: a zero ID, no password, client, Micra.
 fn refused(number: u8) -> Answered
     ensures { λ r. ⌜ (r .board ≡ startBoard unset) × (r .verdict ≡ Verdict.Refused number) ⌝ }
 {
     let id = [0u8; framing::ID_SIZE];
-    let board = start(&id, b"", 1);
+    let board = start(&id, b"", 1, rows::MICRA);
     Answered {
         board,
         verdict: Verdict::Refused(number),
     }
 }
 
-pub(crate) fn set_up(id: &[u8], password: &[u8], mode: u8) -> Answered
-    ensures { λ r. ⌜ SetsUp (setUp (now (id .entry)) (now (password .entry)) mode) r ⌝ }
+pub(crate) fn set_up(id: &[u8], password: &[u8], mode: u8, unit: u8) -> Answered
+    ensures { λ r. ⌜ SetsUp (setUp (now (id .entry)) (now (password .entry)) mode unit) r ⌝ }
 {
     let Check::Passed = checks::check_id(id) else {
         return refused(20);
@@ -90,7 +90,10 @@ pub(crate) fn set_up(id: &[u8], password: &[u8], mode: u8) -> Answered
     let Check::Passed = checks::check_mode(mode) else {
         return refused(22);
     };
-    let board = start(id, password, mode);
+    let Check::Passed = checks::check_unit(unit) else {
+        return refused(23);
+    };
+    let board = start(id, password, mode, unit);
     Answered {
         board,
         verdict: Verdict::Accepted,
@@ -99,18 +102,36 @@ pub(crate) fn set_up(id: &[u8], password: &[u8], mode: u8) -> Answered
 
 // Whether each row is in its set, and 007C and 00B9 are as the identity says.
 fn check_rows(id: [u8; framing::ID_SIZE], store: Store) -> Check
-    ensures { λ r. ⌜ r ≡ checked (not (rowsSound store && same (valueOf store 0x007C) id && same (valueOf store 0x00B9) micra)) ⌝ }
+    ensures { λ r. ⌜ r ≡ checked (not (rowsSound store && same (valueOf store 0x007C) id && same (valueOf store 0x00B9) (unitType (store .unit)))) ⌝ }
 {
     if !store::sound(store) {
         return Check::Failed;
     }
-    if !octets::equal(store::held(&store.bytes, store::ID), &id) {
+    if !octets::equal(store::held(&store.bytes, store.unit, rows::ID), &id) {
         return Check::Failed;
     }
-    if !octets::equal(store::held(&store.bytes, store::UNIT_TYPE), b"\x02\x00") {
+    let unit_type = [store.unit, 0];
+    if !octets::equal(
+        store::held(&store.bytes, store.unit, rows::UNIT_TYPE),
+        &unit_type,
+    ) {
         return Check::Failed;
     }
     Check::Passed
+}
+
+// Whether the unit type is one, and on a Micra each entry of the schedule is legal.
+fn check_entries(parameters: Parameters) -> Check
+    ensures { λ r. ⌜ r ≡ checked (not (isUnit (parameters .store .unit) && entriesSound parameters)) ⌝ }
+{
+    let unit = parameters.store.unit;
+    let Check::Passed = checks::check_unit(unit) else {
+        return Check::Failed;
+    };
+    if unit != rows::MICRA {
+        return Check::Passed;
+    }
+    framing::passed_if(schedule::sound(parameters.schedule))
 }
 
 // Refusal 70: each call takes only a record that set-up and the calls can make.
@@ -133,9 +154,9 @@ pub(crate) fn check_record(board: Board) -> Check
         return Check::Failed;
     };
     let parameters = board.parameters;
-    if !schedule::sound(parameters.schedule) {
+    let Check::Passed = check_entries(parameters) else {
         return Check::Failed;
-    }
+    };
     check_rows(id, parameters.store)
 }
 

@@ -11,11 +11,12 @@ use Rattle.block.specs.Reading.{whole}
 use Rattle.block.specs.Request as request
 use Rattle.block.specs.Response as response
 use Rattle.calendar.specs.Dates.{daysOfMonths, daysOfYears}
-use Rattle.store.specs.Layout.{placesFrom}
-use Rattle.store.specs.Rows.{rows, indexIn}
-use Rattle.store.specs.Sets.{printable, firstAfter, firstBefore}
+use Rattle.rows.specs.Layout.{placesFrom}
+use Rattle.rows.specs.Rows.{rows, indexIn}
+use Rattle.rows.specs.Sets.{printable, firstAfter, firstBefore}
 use Rattle.store.specs.Sound.{soundRows}
-use Rattle.store.specs.Start.{lowest, startValue, startSlots, start}
+use Rattle.rows.specs.Start.{lowest, startValue}
+use Rattle.store.specs.Start.{startSlots, productSize, startBytes, start}
 use Rattle.schedule.specs.Entries.{allLegal}
 use Rattle.model.specs.Commands.{afterCommand, reported, run, runReports, discovered, discoverReports}
 use Rattle.model.specs.Measurement.{measureRefusals, measureRefusal, measuredBoard}
@@ -30,5 +31,5 @@ use Rattle.claims.specs.Examples.{happened}
 use Rattle.claims.specs.Table.{examples, ExamplesHold}
 
 pub examples-hold : ExamplesHold
-unfolding same sum checksum defaultId allAlphanumeric packetRefusals packetRefusal firstRefusal encodeCommand encodeCommandsFrom encodeReport encodeReports every whole request.items response.items daysOfMonths daysOfYears placesFrom rows indexIn printable firstAfter firstBefore soundRows lowest startValue startSlots start afterCommand reported run runReports discovered discoverReports measureRefusals measureRefusal measuredBoard setUpRefusals setUpRefusal setUpBoard sound requestRefusals stepRefusals stepRefusal step commandList hexBytes reportLine reportLines writeRefusals writeRefusal responseRefusals anyResponseRefusals anyResponseRefusal happened examples allLegal
+unfolding same sum checksum defaultId allAlphanumeric packetRefusals packetRefusal firstRefusal encodeCommand encodeCommandsFrom encodeReport encodeReports every whole request.items response.items daysOfMonths daysOfYears placesFrom rows indexIn printable firstAfter firstBefore soundRows lowest startValue startSlots productSize startBytes start afterCommand reported run runReports discovered discoverReports measureRefusals measureRefusal measuredBoard setUpRefusals setUpRefusal setUpBoard sound requestRefusals stepRefusals stepRefusal step commandList hexBytes reportLine reportLines writeRefusals writeRefusal responseRefusals anyResponseRefusals anyResponseRefusal happened examples allLegal
 examples-hold = refl

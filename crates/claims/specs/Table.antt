@@ -21,7 +21,7 @@ ones = 0x31 ∷ 0x31 ∷ 0x31 ∷ 0x31 ∷ []
 
 -- the board of most examples; mode 1 is client
 abbrev pub board : SetUp
-board = setUp zeroId ones 1
+board = setUp zeroId ones 1 2
 
 -- E1, E2 and E6 byte by byte
 abbrev pub read : List ℕ
@@ -121,7 +121,7 @@ examples =
     (some (unknown 0x01 0x01 ∷ held 0x01 0x04 (0x05 ∷ []) ∷ held 0x02 0x40 (0x51 ∷ 0x68 ∷ []) ∷ [])) ∷
     -- E6: zero ID, empty password, FUNC 01, no data: 24 bytes, sum 13 00. Silence on the board with no password, refusal 8 if it has one. 23 bytes: refusal 2
     writes (writeCall untouched zeroId [] [] [] [] []) (Length 24) (filled shortest) ∷
-    runs (setUp zeroId [] 1)
+    runs (setUp zeroId [] 1 2)
     (sent shortest Silence untouched
     ∷ sent (take 23 shortest) (Refused 2) untouched ∷ []) ∷
     runs board (sent shortest (Refused 8) untouched ∷ []) ∷
@@ -161,7 +161,7 @@ examples =
     ∷ sent (packet (0x03 ∷ 0x01 ∷ 0x01 ∷ 0xFE ∷ 0x02 ∷ 0x63 ∷ 0x46 ∷ 0x88 ∷ 0x02 ∷ [])) (Refused 10) untouched
     ∷ holds 0x0001 (0x00 ∷ []) ∷ []) ∷
     -- E12: client mode, search, data 7C 01 B9; the search bears the password 2222 and gets it back
-    runs (setUp ownId ones 1) (sent discovery (Response 52) (filled found) ∷ []) ∷
+    runs (setUp ownId ones 1 2) (sent discovery (Response 52) (filled found) ∷ []) ∷
     -- A measurement, -5.0 degrees, that a packet then reads: without it a definition that drops its measurements would pass. Its listing has letters among its digits.
     runs board
     (measured 0x001E (0xCE ∷ 0xFF ∷ []) Accepted

@@ -7,7 +7,7 @@ use borrow.Author.Tests.{eq-eqb, ne-eqb}
 use Rattle.octets.proofs.Booleans.{one-of-two}
 use Rattle.block.specs.Command.{Command, commandNumber}
 use Rattle.store.specs.declared.Store.{Store}
-use Rattle.store.specs.Rows.{isIdentity}
+use Rattle.rows.specs.Rows.{isIdentity}
 use Rattle.store.specs.Operations.{written, raised, lowered, answer}
 use Rattle.schedule.specs.Operations as entries
 use Rattle.schedule.specs.Operations.{scheduleNumber, answered}
@@ -42,17 +42,18 @@ pub entry-kept : (schedule : Schedule) (c : Command) → (c .function ≡ 2 → 
 entry-kept schedule c two three = rw (ne-eqb _ _ two, ne-eqb _ _ three)
 
 -- the two kinds of parameters
-module _ (p : Parameters) (c : Command) {number : ℕ} (named : number ≡ commandNumber c) where
-  pub after-entry : number ≡ scheduleNumber → parametersOf (p .store) (afterEntry (p .schedule) c) ≡ afterCommand p c
+module _ (p : Parameters) (c : Command) where
+  pub after-entry : isSchedule p c ≡ true → parametersOf (p .store) (afterEntry (p .schedule) c) ≡ afterCommand p c
   unfolding afterCommand
-  after-entry e = rw (eq-eqb _ _ (sym named ∙ e))
+  after-entry e = rw e
 
-  pub after-row : (number ≡ scheduleNumber → ⊥) → parametersOf (afterRow (p .store) c) (p .schedule) ≡ afterCommand p c
+  pub after-row : isSchedule p c ≡ false → parametersOf (afterRow (p .store) c) (p .schedule) ≡ afterCommand p c
   unfolding afterCommand
-  after-row other = rw (ne-eqb _ _ (λ e. other (named ∙ e)))
+  after-row e = rw e
 
 reported-row :
-    (p : Parameters) (c : Command) → isSchedule c ≡ false → reported p c ≡ rowReport (answer (c .function) (commandNumber c)) (p .store) c
+    (p : Parameters) (c : Command) → isSchedule p c ≡ false
+    → reported p c ≡ rowReport (answer (p .store .unit) (c .function) (commandNumber c)) (p .store) c
 unfolding reported
 reported-row p c h = rw h
 
@@ -64,14 +65,14 @@ module _ (scope : Scope) (p : Parameters) (draft : Draft) (c : Command) {number 
   reported-by h = rw (sym (ap (selected scope) named) ∙ sym asked ∙ h)
 
   pub report-of-entry :
-      chosen ≡ true → number ≡ scheduleNumber
+      chosen ≡ true → isSchedule p c ≡ true
       → drafted draft (entryReport (answered (c .function) (c .value)) (p .schedule) c) ≡ drafted draft (reportedIn scope p c)
-  report-of-entry h e = ap (drafted draft) (sym (entry-reported p c (eq-eqb _ _ (sym named ∙ e)))) ∙ reported-by h
+  report-of-entry h e = ap (drafted draft) (sym (entry-reported p c e)) ∙ reported-by h
 
   pub report-of-row :
-      chosen ≡ true → (number ≡ scheduleNumber → ⊥)
-      → drafted draft (rowReport (answer (c .function) (commandNumber c)) (p .store) c) ≡ drafted draft (reportedIn scope p c)
-  report-of-row h other = ap (drafted draft) (sym (reported-row p c (ne-eqb _ _ (λ e. other (named ∙ e))))) ∙ reported-by h
+      chosen ≡ true → isSchedule p c ≡ false
+      → drafted draft (rowReport (answer (p .store .unit) (c .function) (commandNumber c)) (p .store) c) ≡ drafted draft (reportedIn scope p c)
+  report-of-row h other = ap (drafted draft) (sym (reported-row p c other)) ∙ reported-by h
 
 -- the rows of the identity
 pub in-identity : {n : ℕ} → (n ≡ 0x007C) ⊎ (n ≡ 0x00B9) → isIdentity n ≡ true

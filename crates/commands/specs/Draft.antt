@@ -8,7 +8,7 @@ use Rattle.octets.specs.Octets.{overwrite, fits}
 use Rattle.block.specs.Command.{Command, commandNumber, Report}
 use Rattle.block.specs.Encoding.{encodeReports, lastPage, encodableReport, every}
 use Rattle.block.specs.Request.{commands}
-use Rattle.store.specs.Rows.{isIdentity}
+use Rattle.rows.specs.Rows.{isIdentity}
 use Rattle.model.specs.Commands.{afterCommand, reported, run}
 use Rattle.model.specs.declared.Parameters.{Parameters}
 use Rattle.encoding.specs.declared.Written.{Written}

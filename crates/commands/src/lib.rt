@@ -12,7 +12,7 @@ ghost use mathlib.Core.Path.{_≡_};
 ghost use Rattle.block.specs.Command.{commandOf, parameterNumber};
 ghost use Rattle.store.specs.Operations.{answer};
 ghost use Rattle.schedule.specs.Operations.{answered};
-ghost use Rattle.model.specs.Commands.{afterRow, afterEntry, afterCommand, rowReport, entryReport};
+ghost use Rattle.model.specs.Commands.{namesSchedule, afterRow, afterEntry, afterCommand, rowReport, entryReport};
 ghost use Rattle.commands.specs.Draft.{blank, draftAt, drafted, exceeded, runBlock, runResult, reportedIn, selected};
 
 // Which parameters are reported: in a discovery only the ID and the unit type.
@@ -26,8 +26,15 @@ pub struct RunResult {
     pub draft: Draft,
 }
 
-// The weekly schedule; every other number is a row's or unknown.
+// The weekly schedule, a parameter of the Micra; every other number is a row's or unknown.
 const SCHEDULE: u16 = 0x0077;
+
+// Whether a number is the schedule's on a unit type.
+fn is_schedule(unit: u8, number: u16) -> bool
+    ensures { λ r. ⌜ r ≡ namesSchedule unit number ⌝ }
+{
+    unit == rows::MICRA && number == SCHEDULE
+}
 
 fn parameter_number(page: u8, low: u8) -> u16
     ensures { λ r. ⌜ r ≡ parameterNumber page low ⌝ }
@@ -63,7 +70,7 @@ fn change(parameters: Parameters, function: u8, page: u8, low: u8, value: &[u8])
 {
     let store = parameters.store;
     let schedule = parameters.schedule;
-    if parameter_number(page, low) == SCHEDULE {
+    if is_schedule(store.unit, parameter_number(page, low)) {
         return Parameters {
             store,
             schedule: change_entry(schedule, function, page, low, value),
@@ -81,7 +88,7 @@ fn is_selected(scope: Scope, number: u16) -> bool
     match scope {
         Scope::All => true,
         Scope::Identity => match number {
-            store::ID | store::UNIT_TYPE => true,
+            rows::ID | rows::UNIT_TYPE => true,
             _ => false,
         },
     }
@@ -97,14 +104,20 @@ fn report_row(
     low: u8,
     value: &[u8],
 ) -> Cursor
-    ensures { λ r. ⌜ draftAt (now (bytes .exit)) r ≡ drafted (draftAt (now (bytes .entry)) cursor) (rowReport (answer function (parameterNumber page low)) store (commandOf function page low (now (value .entry)))) ⌝ }
+    ensures { λ r. ⌜ draftAt (now (bytes .exit)) r ≡ drafted (draftAt (now (bytes .entry)) cursor) (rowReport (answer (store .unit) function (parameterNumber page low)) store (commandOf function page low (now (value .entry)))) ⌝ }
 {
     let number = parameter_number(page, low);
-    match store::answered_with(function, number) {
+    match store::answered_with(store.unit, function, number) {
         store::Answer::Silence => cursor,
         store::Answer::Unknown => draft::write_unknown(bytes, cursor, page, low),
         store::Answer::Value => {
-            draft::write_value(bytes, cursor, page, low, store::held(&store.bytes, number))
+            draft::write_value(
+                bytes,
+                cursor,
+                page,
+                low,
+                store::held(&store.bytes, store.unit, number),
+            )
         }
     }
 }
@@ -148,7 +161,7 @@ fn report(
     if !is_selected(scope, number) {
         return cursor;
     }
-    if number == SCHEDULE {
+    if is_schedule(parameters.store.unit, number) {
         return report_entry(
             parameters.schedule,
             bytes,

@@ -7,7 +7,7 @@ use Rattle.model.specs.Discovery as discovery
 use Rattle.model.specs.Measurement.{measureCall, measureRefusal}
 use Rattle.model.specs.Noninterference.{ListedCall, toBoth, toFirst, toSecond, Returned, judged, Unauthenticated, without}
 use Rattle.model.specs.Noninterference as model
-use Rattle.model.specs.Record.{passwordOf, SetUp, verdictOf, SetsUp, setUpRefusal}
+use Rattle.model.specs.Record.{passwordOf, unitOf, SetUp, verdictOf, SetsUp, setUpRefusal}
 use Rattle.model.specs.Step.{Call, call, step, Steps}
 use Rattle.model.specs.Trace.{OwnMade, packetMade, measurementMade, Trace, returnsOf, ownReturned, AlikeMade, DiscoverableMade, TraceClaim}
 use Rattle.model.specs.Trace as trace
@@ -116,7 +116,7 @@ run-alike (calledBoth packet buffer left right reply reply′ contract contract�
 run-alike (calledFirst own later) h = run-alike later h
 run-alike (calledSecond own later) h = run-alike later h
 
-discoverable : {id : List ℕ} {mode : ℕ} {board : Board} → DiscoverableMade id mode board → DiscoverableCalled id mode board
+discoverable : {id : List ℕ} {unit mode : ℕ} {board : Board} → DiscoverableMade id unit mode board → DiscoverableCalled id unit mode board
 discoverable {board} d =
     record {
       unchanged = λ packet buffer after next reply contract h.
@@ -127,10 +127,10 @@ discoverable {board} d =
     }
 
 pub exported-noninterference : ExportedNoninterference
-exported-noninterference first second one two e e′ same-id same-mode run h =
-    let claim : TraceClaim (one .board .id) (one .board .mode) (made run) =
+exported-noninterference first second one two e e′ same-id same-unit same-mode run h =
+    let claim : TraceClaim (one .board .id) (unitOf (one .board)) (one .board .mode) (made run) =
     trace-noninterference first second (answeredOf one (setUpRefusal first)) (answeredOf two (setUpRefusal second)) (set-up-made e) (set-up-made e′)
-    same-id same-mode (made run)
+    same-id same-unit same-mode (made run)
     (subst (Unauthenticated (passwordOf (one .board)) (passwordOf (two .board))) (sym (same-calls run)) h) in
     let only : (other : Run (one .board) (two .board)) → callsOf other ≡ without (callsOf run) → trace.callsOf (made other) ≡ without (trace.callsOf (made run)) =
     λ other e. same-calls other ∙ e ∙ ap without (sym (same-calls run)) in
@@ -139,7 +139,7 @@ exported-noninterference first second one two e e′ same-id same-mode run h =
       same-ends = λ other e. sym (same-ends run) ∙ claim .same-ends (made other) (only other e) ∙ same-ends other;
       same-told = λ other e. run-told run ∙ ap bothInNumbers (claim .same-returns (made other) (only other e)) ∙ sym (run-told other);
       first-discoverable =
-          discoverable (subst (λ (ends : Board × Board). DiscoverableMade (one .board .id) (one .board .mode) (ends .0)) (same-ends run) (claim .first-discoverable));
+          discoverable (subst (λ (ends : Board × Board). DiscoverableMade (one .board .id) (unitOf (one .board)) (one .board .mode) (ends .0)) (same-ends run) (claim .first-discoverable));
       second-discoverable =
-          discoverable (subst (λ (ends : Board × Board). DiscoverableMade (one .board .id) (one .board .mode) (ends .1)) (same-ends run) (claim .second-discoverable));
+          discoverable (subst (λ (ends : Board × Board). DiscoverableMade (one .board .id) (unitOf (one .board)) (one .board .mode) (ends .1)) (same-ends run) (claim .second-discoverable));
     }

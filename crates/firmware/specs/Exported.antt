@@ -9,7 +9,7 @@ use Rattle.model.specs.Authentication.{discovers}
 use Rattle.model.specs.Discovery.{discoveryReply}
 use Rattle.model.specs.Measurement.{MeasureCall, measureCall, MeasuresBoard}
 use Rattle.model.specs.Noninterference.{OwnCall, ofPacket, ofMeasurement, ListedCall, toBoth, toFirst, toSecond, Unauthenticated, without}
-use Rattle.model.specs.Record.{passwordOf, SetUp, SetsUp}
+use Rattle.model.specs.Record.{passwordOf, unitOf, SetUp, SetsUp}
 use Rattle.model.specs.Step.{Call, call, Steps}
 use Rattle.model.specs.declared.Answered.{Answered}
 use Rattle.model.specs.declared.Board.{Board}
@@ -94,27 +94,27 @@ AlikeCalled {first} {second} (calledBoth {next} {next′} packet buffer left rig
 AlikeCalled (calledFirst own later) = AlikeCalled later
 AlikeCalled (calledSecond own later) = AlikeCalled later
 
--- a discovery (search) leaves the record as it was lent, and is answered from the packet and the ID
-pub record DiscoverableCalled (id : List ℕ) (mode : ℕ) (board : Board) : Type 0 where
+-- a discovery (search) leaves the record as it was lent, and is answered from the packet, the ID and the unit type
+pub record DiscoverableCalled (id : List ℕ) (unit mode : ℕ) (board : Board) : Type 0 where
   pub unchanged :
       (packet buffer after : List ℕ) (next : Board) (reply : Reply) → Replies (call board packet buffer) next reply after
       → discovers mode packet ≡ true → next ≡ board
   pub answered :
       (packet buffer after : List ℕ) (next : Board) (reply : Reply) → Replies (call board packet buffer) next reply after
       → discovers mode packet ≡ true → 256 ≤ length buffer
-      → (reply ≡ replyOf (discoveryReply packet id buffer .answer)) × (after ≡ discoveryReply packet id buffer .buffer)
+      → (reply ≡ replyOf (discoveryReply packet id unit buffer .answer)) × (after ≡ discoveryReply packet id unit buffer .buffer)
 
-pub record RunClaim (id : List ℕ) (mode : ℕ) {first second : Board} (run : Run first second) : Type 0 where
+pub record RunClaim (id : List ℕ) (unit mode : ℕ) {first second : Board} (run : Run first second) : Type 0 where
   pub alike : AlikeCalled run
   -- another run, of the same calls without the packets for both
   pub same-ends : (other : Run first second) → callsOf other ≡ without (callsOf run) → endsOf run ≡ endsOf other
   pub same-told : (other : Run first second) → callsOf other ≡ without (callsOf run) → toldOf run ≡ toldOf other
-  pub first-discoverable : DiscoverableCalled id mode (endsOf run .0)
-  pub second-discoverable : DiscoverableCalled id mode (endsOf run .1)
+  pub first-discoverable : DiscoverableCalled id unit mode (endsOf run .0)
+  pub second-discoverable : DiscoverableCalled id unit mode (endsOf run .1)
 
 abbrev pub ExportedNoninterference : Type 0
 ExportedNoninterference =
     (first second : SetUp) (one two : CallResult) → one ≡ setUpResult first → two ≡ setUpResult second
-    → one .board .id ≡ two .board .id → one .board .mode ≡ two .board .mode
+    → one .board .id ≡ two .board .id → unitOf (one .board) ≡ unitOf (two .board) → one .board .mode ≡ two .board .mode
     → (run : Run (one .board) (two .board)) → Unauthenticated (passwordOf (one .board)) (passwordOf (two .board)) (callsOf run)
-    → RunClaim (one .board .id) (one .board .mode) run
+    → RunClaim (one .board .id) (unitOf (one .board)) (one .board .mode) run

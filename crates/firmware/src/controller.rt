@@ -83,10 +83,10 @@ fn in_numbers(answered: Answered) -> CallResult
 
 // Sets a board up.
 #[no_mangle]
-pub extern "C" fn udgornwy_set_up(id: &[u8], password: &[u8], mode: u8) -> CallResult
-    ensures { λ r. ⌜ r ≡ setUpResult (setUp (now (id .entry)) (now (password .entry)) mode) ⌝ }
+pub extern "C" fn udgornwy_set_up(id: &[u8], password: &[u8], mode: u8, unit: u8) -> CallResult
+    ensures { λ r. ⌜ r ≡ setUpResult (setUp (now (id .entry)) (now (password .entry)) mode unit) ⌝ }
 {
-    in_numbers(board::set_up(id, password, mode))
+    in_numbers(board::set_up(id, password, mode, unit))
 }
 
 // Stores a measured value in its read-only row.

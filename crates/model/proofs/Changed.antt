@@ -1,6 +1,6 @@
 -- Demand 2: the statements of specs/Changes.antt hold.
 use Prim.Native.Nat.{ℕ, _-_}
-use mathlib.Core.Bool.{Bool, true, false, cond, not, _&&_, and-false, and-true}
+use mathlib.Core.Bool.{Bool, true, false, cond, not, _&&_, _||_, and-false, and-true, or-true}
 use mathlib.Core.List.{List, [], _∷_, _++_, append-assoc}
 use mathlib.Core.Option.{Option, none, some, Option·getD}
 use mathlib.Core.Path.{_≡_, refl, sym, ap, subst, _∙_}
@@ -19,14 +19,17 @@ use Rattle.block.specs.Command.{Command, commandNumber, Report, held, unknown}
 use Rattle.block.specs.Encoding.{every}
 use Rattle.block.proofs.Parts.{cond-same}
 use Rattle.store.specs.Laws.{Operation, Write, Raise, Lower, Measure, newValue, after}
-use Rattle.store.specs.Layout.{slotOf, valueOf, sizeOf}
+use Rattle.rows.specs.Layout.{sizeOf, isMicra}
+use Rattle.rows.specs.Sets.{member}
+use Rattle.store.specs.Start.{start}
+use Rattle.store.specs.Layout.{slotOf, valueOf}
 use Rattle.store.specs.Operations.{measurable, affected, stored as storedIn}
-use Rattle.store.specs.Rows.{isIdentity, rows as table, indexIn, allows, known, rowOf}
+use Rattle.rows.specs.Rows.{isIdentity, rows as table, indexIn, allows, known, rowOf}
 use Rattle.store.specs.Laws as laws
 use Rattle.store.specs.Sound as rows
 use Rattle.store.specs.declared.Answer.the-variants.{Value, Unknown, Silence}
 use Rattle.store.specs.declared.Store.{Store}
-use Rattle.store.proofs.Laws.{size-kept, others-kept, identity-kept, read-back, sound-kept, held-legal, start-sized, start-sound, start-identity}
+use Rattle.store.proofs.Laws.{size-kept, unit-kept, others-kept, identity-kept, read-back, sound-kept, held-legal, start-sized, start-sound, start-identity}
 use Rattle.schedule.specs.Days.{isDay, isPeriod, daysOf, contains, isEmpty, isWritable, firstDay}
 use Rattle.schedule.specs.Entries as entries
 use Rattle.schedule.specs.Entries.{entryAt}
@@ -36,10 +39,10 @@ use Rattle.schedule.specs.declared.Answer.{Answer as EntryAnswer}
 use Rattle.schedule.specs.declared.Answer.the-variants as entry
 use Rattle.schedule.specs.declared.Schedule.{Schedule}
 use Rattle.schedule.proofs.Laws as schedule
-use Rattle.model.specs.Changes.{Asks, mayChange, noneChanges, legalFields, isForEntry, storesEntry, noneStores, asksEntry, writesEntry, entryOn, SameIdentity, ValuesReported, OthersLeft, EntriesReadBack, CarriedOut, CommandRuns, PacketsChange, MeasurementsChange, SetUpsLegal}
-use Rattle.model.specs.Commands.{isSchedule, isWrite, afterEntry, afterCommand, rowReport, entryReport, reported, run, runReports, discoverReports}
+use Rattle.model.specs.Changes.{Asks, mayChange, noneChanges, legalFields, isForEntry, namesEntry, storesEntry, noneStores, asksEntry, writesEntry, entryOn, SameIdentity, ValuesReported, OthersLeft, EntriesReadBack, CarriedOut, CommandRuns, PacketsChange, MeasurementsChange, SetUpsLegal}
+use Rattle.model.specs.Commands.{namesSchedule, isSchedule, isWrite, afterEntry, afterCommand, rowReport, entryReport, reported, run, runReports, discoverReports}
 use Rattle.model.specs.Measurement.{MeasureCall, measureRefusals, measureRefusal, measuredBy, measuredBoard}
-use Rattle.model.specs.Record.{isId, micra, parametersOf, withParameters, SetUp, setUpRefusals, setUpRefusal, startBoard, unset, boardOf, setUpBoard, sound}
+use Rattle.model.specs.Record.{isId, isUnit, unitType, unitOf, entriesSound, parametersOf, withParameters, SetUp, setUpRefusals, setUpRefusal, startBoard, unset, boardOf, setUpBoard, sound}
 use Rattle.model.specs.Step.{Call, request, unsound, isDiscovery, commandsOf, reportsOf, stepRefusal, step}
 use Rattle.model.specs.declared.Board.{Board}
 use Rattle.model.specs.declared.Parameters.{Parameters}
@@ -52,10 +55,10 @@ use Rattle.model.proofs.StepRefusals.{step-refusal-by, step-refused, pa
 command-done :
     (p : Parameters) (c : Command)
     → afterCommand p c
-    ≡ cond (isSchedule c) (parametersOf (p .store) (afterEntry (p .schedule) c)) (parametersOf (done (operationOf c) (p .store) (commandNumber c)) (p .schedule))
+    ≡ cond (isSchedule p c) (parametersOf (p .store) (afterEntry (p .schedule) c)) (parametersOf (done (operationOf c) (p .store) (commandNumber c)) (p .schedule))
 unfolding afterCommand
 command-done p c =
-    ap (λ (s : Store). cond (isSchedule c) (parametersOf (p .store) (afterEntry (p .schedule) c)) (parametersOf s (p .schedule)))
+    ap (λ (s : Store). cond (isSchedule p c) (parametersOf (p .store) (afterEntry (p .schedule) c)) (parametersOf s (p .schedule)))
     (by-function (isWrite c) (eqb (c .function) 4) (eqb (c .function) 5))
   where
     by-function :
@@ -72,33 +75,35 @@ pub others-left : OthersLeft
 unfolding afterCommand
 others-left p c = record { rows = λ h. rw h; entries = λ h. rw h }
 
-entries-written : (p : Parameters) (c : Command) → isSchedule c ≡ true → isWrite c ≡ true → afterCommand p c .schedule ≡ written (p .schedule) (c .value)
+entries-written : (p : Parameters) (c : Command) → isSchedule p c ≡ true → isWrite c ≡ true → afterCommand p c .schedule ≡ written (p .schedule) (c .value)
 unfolding afterCommand
 entries-written p c named writes = rw (named, writes)
 
 -- a read leaves the parameters as they were
 pub read-keeps : (p : Parameters) (c : Command) → c .function ≡ 1 → afterCommand p c ≡ p
 unfolding afterCommand
-read-keeps p c e = rw e (cond-same (isSchedule c) p)
+read-keeps p c e = rw e (cond-same (isSchedule p c) p)
 
--- no row has the schedule's number
-known-row : (n : ℕ) → known n ≡ true → eqb n scheduleNumber ≡ false
+-- no row of the Micra has the schedule's number
+known-row : (unit n : ℕ) → known unit n ≡ true → namesSchedule unit n ≡ false
 unfolding table indexIn
-known-row n h = by-number (eqb n scheduleNumber) refl
+known-row unit n h = by-number (eqb unit 2) (eqb n scheduleNumber) refl refl
   where
-    no-row : known scheduleNumber ≡ false
+    no-row : known 2 scheduleNumber ≡ false
     no-row = refl
 
-    by-number : (is-schedule : Bool) → eqb n scheduleNumber ≡ is-schedule → is-schedule ≡ false
-    by-number true e = let named : known n ≡ false = ap known (eqb-true n scheduleNumber e) ∙ no-row in cc
-    by-number false e = refl
+    by-number : (micra is-schedule : Bool) → eqb unit 2 ≡ micra → eqb n scheduleNumber ≡ is-schedule → (micra && is-schedule) ≡ false
+    by-number true true e f =
+        let named : known unit n ≡ false = (λ i. known (eqb-true unit 2 e i) (eqb-true n scheduleNumber f i)) ∙ no-row in cc
+    by-number true false e f = refl
+    by-number false is-schedule e f = refl
 
 -- of the schedule, by its answer
-pub entry-reported : (p : Parameters) (c : Command) → isSchedule c ≡ true → reported p c ≡ entryReport (answered (c .function) (c .value)) (p .schedule) c
+pub entry-reported : (p : Parameters) (c : Command) → isSchedule p c ≡ true → reported p c ≡ entryReport (answered (c .function) (c .value)) (p .schedule) c
 unfolding reported
 entry-reported p c named = rw named
 
-module _ (p : Parameters) (c : Command) (named : isSchedule c ≡ true) where
+module _ (p : Parameters) (c : Command) (named : isSchedule p c ≡ true) where
   told : (answer : EntryAnswer) → answered (c .function) (c .value) ≡ answer → reported p c ≡ entryReport answer (p .schedule) c
   told answer e = entry-reported p c named ∙ ap (λ (a : EntryAnswer). entryReport a (p .schedule) c) e
 
@@ -127,10 +132,9 @@ unfolding reported
 values-reported p c =
     let report : Bool → Bool → Bool → List Report = λ is-schedule silent row.
     cond is-schedule (entryReport (answered (c .function) (c .value)) (p .schedule) c) (rowReport (cond silent Silence (cond row Value Unknown)) (p .store) c) in
-    let rows : Bool = known (commandNumber c) in
     record {
-      silence = λ two. by-number two (isSchedule c);
-      value = λ other row. λ i. report (known-row (commandNumber c) row i) (other i) (row i);
+      silence = λ two. by-number two (isSchedule p c);
+      value = λ other row. λ i. report (known-row (p .store .unit) (commandNumber c) row i) (other i) (row i);
       asked = asked-told p c;
       written = written-told p c;
       no-entry = none-told p c;
@@ -140,31 +144,31 @@ values-reported p c =
     by-number :
         eqb (c .function) 2 ≡ true → (is-schedule : Bool)
         → cond is-schedule (entryReport (answered (c .function) (c .value)) (p .schedule) c)
-        (rowReport (cond (eqb (c .function) 2) Silence (cond (known (commandNumber c)) Value Unknown)) (p .store) c)
+        (rowReport (cond (eqb (c .function) 2) Silence (cond (known (p .store .unit) (commandNumber c)) Value Unknown)) (p .store) c)
         ≡ []
     by-number two true = ap (λ (f : ℕ). entryReport (answered f (c .value)) (p .schedule) c) (eqb-true (c .function) 2 two)
     by-number two false = rw two
 
-same-identity : (board : Board) (p : Parameters) → SameIdentity board (withParameters board p)
-same-identity board p = record { id = refl; password = refl; size = refl; mode = refl }
+same-identity : (board : Board) (p : Parameters) → p .store .unit ≡ unitOf board → SameIdentity board (withParameters board p)
+same-identity board p e = record { id = refl; password = refl; size = refl; mode = refl; unit = e }
 
 -- what a row's operation and a write of the schedule keep, a command keeps
 pub on-command :
     (P : Parameters → Type 0) (p : Parameters) (c : Command) → P p
     → ((operation : Operation) → operationOf c ≡ some operation → P (parametersOf (after operation (p .store) (commandNumber c)) (p .schedule)))
-    → (isSchedule c ≡ true → isWrite c ≡ true → P (parametersOf (p .store) (written (p .schedule) (c .value)))) → P (afterCommand p c)
-on-command P p c unchanged changed entered = rw command-done (by-number (isSchedule c) refl)
+    → (isSchedule p c ≡ true → isWrite c ≡ true → P (parametersOf (p .store) (written (p .schedule) (c .value)))) → P (afterCommand p c)
+on-command P p c unchanged changed entered = rw command-done (by-number (isSchedule p c) refl)
   where
     by-operation : (o : Option Operation) → operationOf c ≡ o → P (parametersOf (done o (p .store) (commandNumber c)) (p .schedule))
     by-operation none e = unchanged
     by-operation (some operation) e = changed operation e
 
-    by-write : isSchedule c ≡ true → (writes : Bool) → isWrite c ≡ writes → P (parametersOf (p .store) (cond writes (written (p .schedule) (c .value)) (p .schedule)))
+    by-write : isSchedule p c ≡ true → (writes : Bool) → isWrite c ≡ writes → P (parametersOf (p .store) (cond writes (written (p .schedule) (c .value)) (p .schedule)))
     by-write h true e = entered h e
     by-write h false e = unchanged
 
     by-number :
-        (is-schedule : Bool) → isSchedule c ≡ is-schedule
+        (is-schedule : Bool) → isSchedule p c ≡ is-schedule
         → P (cond is-schedule (parametersOf (p .store) (afterEntry (p .schedule) c)) (parametersOf (done (operationOf c) (p .store) (commandNumber c)) (p .schedule)))
     by-number true e = by-write e (isWrite c) refl
     by-number false e = by-operation (operationOf c) refl
@@ -174,6 +178,17 @@ sized-after p c sized =
     on-command Sized p c sized
     (λ operation e. record { store = size-kept operation (p .store) (commandNumber c) (sized .store); schedule = sized .schedule })
     (λ named writes. record { store = sized .store; schedule = schedule.size-kept (p .schedule) (c .value) (sized .schedule) })
+
+-- no command changes the unit type
+unit-after : (p : Parameters) (c : Command) → afterCommand p c .store .unit ≡ p .store .unit
+unit-after p c =
+    on-command (λ (q : Parameters). q .store .unit ≡ p .store .unit) p c refl
+    (λ operation e. unit-kept operation (p .store) (commandNumber c)) (λ named writes. refl)
+
+run-unit : (cs : List Command) (p : Parameters) → run p cs .store .unit ≡ p .store .unit
+unfolding run
+run-unit [] p = refl
+run-unit (c ∷ cs) p = run-unit cs (afterCommand p c) ∙ unit-after p c
 
 -- and a list of such commands
 run-keeps :
@@ -226,28 +241,32 @@ exactly day period value is-period =
 
 module _ (day period : ℕ) (is-day : isDay day ≡ true) (is-period : isPeriod period ≡ true) where
   run-entries :
-      (cs : List Command) (p : Parameters) → noneStores day period cs ≡ true → Sized p
+      (unit : ℕ) (cs : List Command) (p : Parameters) → unit ≡ p .store .unit → noneStores unit day period cs ≡ true → Sized p
       → entryAt (run p cs .schedule) day period ≡ entryAt (p .schedule) day period
-  run-entries cs p h sized =
-      run-keeps (λ (q : Parameters). entryAt (q .schedule) day period ≡ entryAt (p .schedule) day period)
-      (λ (c : Command). not (storesEntry day period c)) kept cs p h sized refl .1
+  run-entries unit cs p u h sized =
+      run-keeps (λ (q : Parameters). (unit ≡ q .store .unit) × (entryAt (q .schedule) day period ≡ entryAt (p .schedule) day period))
+      (λ (c : Command). not (storesEntry unit day period c)) kept cs p h sized (u, refl) .1 .1
     where
       kept :
-          (q : Parameters) (c : Command) → not (storesEntry day period c) ≡ true → Sized q
-          → entryAt (q .schedule) day period ≡ entryAt (p .schedule) day period
-          → entryAt (afterCommand q c .schedule) day period ≡ entryAt (p .schedule) day period
-      kept q c unaffected size so-far =
-          on-command (λ (r : Parameters). entryAt (r .schedule) day period ≡ entryAt (p .schedule) day period) q c so-far (λ operation e. so-far)
-          (λ named writes.
-          let other : (stores (c .value) && isFor (c .value) day period) ≡ false =
-          (λ i. sym named i && sym writes i && exactly day period (c .value) is-period i) ∙ not-true (storesEntry day period c) unaffected in
-          schedule.write-exact (q .schedule) (c .value) day period (size .schedule) is-day is-period ∙ rw other so-far)
+          (q : Parameters) (c : Command) → not (storesEntry unit day period c) ≡ true → Sized q
+          → (unit ≡ q .store .unit) × (entryAt (q .schedule) day period ≡ entryAt (p .schedule) day period)
+          → (unit ≡ afterCommand q c .store .unit) × (entryAt (afterCommand q c .schedule) day period ≡ entryAt (p .schedule) day period)
+      kept q c unaffected size so-far = (
+        so-far .0 ∙ sym (unit-after q c),
+        on-command (λ (r : Parameters). entryAt (r .schedule) day period ≡ entryAt (p .schedule) day period) q c (so-far .1) (λ operation e. so-far .1)
+            (λ named writes.
+            let other : (stores (c .value) && isFor (c .value) day period) ≡ false =
+            (λ i. sym (ap (λ (v : ℕ). namesEntry v c) (so-far .0) ∙ named) i && sym writes i && exactly day period (c .value) is-period i)
+            ∙ not-true (storesEntry unit day period c) unaffected in
+            schedule.write-exact (q .schedule) (c .value) day period (size .schedule) is-day is-period ∙ rw other (so-far .1)),
+      )
 
   entry-stored :
-      (p : Parameters) (c : Command) → Sized p → storesEntry day period c ≡ true → entryAt (afterCommand p c .schedule) day period ≡ entryIn (c .value)
+      (p : Parameters) (c : Command) → Sized p → storesEntry (p .store .unit) day period c ≡ true
+      → entryAt (afterCommand p c .schedule) day period ≡ entryIn (c .value)
   entry-stored p c sized h =
-      let both = both-true (isSchedule c && isWrite c) _ h in
-      let named = both-true (isSchedule c) (isWrite c) (both .0) in
+      let both = both-true (isSchedule p c && isWrite c) _ h in
+      let named = both-true (isSchedule p c) (isWrite c) (both .0) in
       ap (λ (s : Schedule). entryAt s day period) (entries-written p c (named .0) (named .1))
       ∙ schedule.write-exact (p .schedule) (c .value) day period (sized .schedule) is-day is-period
       ∙ rw (exactly day period (c .value) is-period ∙ both .1)
@@ -255,15 +274,15 @@ module _ (day period : ℕ) (is-day : isDay day ≡ true) (is-period : isPeriod 
 pub entries-read-back : EntriesReadBack
 unfolding run
 entries-read-back p write read day period sized is-period h read-number reads asked =
-    let both = both-true (isSchedule write && isWrite write) _ h in
-    let named = both-true (isSchedule write) (isWrite write) (both .0) in
+    let both = both-true (isSchedule p write && isWrite write) _ h in
+    let named = both-true (isSchedule p write) (isWrite write) (both .0) in
     let kept = both-true (stores (write .value)) (isFor (write .value) day period) (exactly day period (write .value) is-period ∙ both .1) in
     let at = both-true (contains (daysOf (dayIn (write .value))) day) (eqb (periodIn (write .value)) period) (kept .1) in
     let same : periodIn (write .value) ≡ period = eqb-true _ _ (at .1) in
     let back = schedule.read-back (p .schedule) (write .value) day sized (kept .0) (at .0) in
     let left : run p (write ∷ read ∷ []) .schedule ≡ written (p .schedule) (write .value) =
     ap (λ (q : Parameters). q .schedule) (read-keeps (afterCommand p write) read reads) ∙ entries-written p write (named .0) (named .1) in
-    entry-reported (run p (write ∷ read ∷ [])) read read-number
+    entry-reported (run p (write ∷ read ∷ [])) read (ap (λ (unit : ℕ). namesEntry unit read) (run-unit (write ∷ read ∷ []) p) ∙ read-number)
     ∙ (λ i. entryReport (answered (reads i) ((asked ∙ ap (λ (x : ℕ). day ∷ x ∷ []) (sym same)) i)) (left i) read)
     ∙ ap (λ (a : EntryAnswer). entryReport a (written (p .schedule) (write .value)) read) (back .0)
     ∙ ap (λ (v : List ℕ). held (read .page) (read .low) v ∷ []) (back .1)
@@ -271,14 +290,15 @@ entries-read-back p write read day period sized is-period h read-number reads as
 -- parameters of a sound record with this ID
 record LegalParameters (id : List ℕ) (p : Parameters) : Type 0 where
   held : rows.sound (p .store) ≡ true
-  scheduled : entries.sound (p .schedule) ≡ true
+  unit : isUnit (p .store .unit) ≡ true
+  scheduled : entriesSound p ≡ true
   own-id : valueOf (p .store) 0x007C ≡ id
-  unit-type : valueOf (p .store) 0x00B9 ≡ micra
+  unit-type : valueOf (p .store) 0x00B9 ≡ unitType (p .store .unit)
 
 value-kept :
     (operation : Operation) (store : Store) (n other : ℕ) → isIdentity other ≡ true → laws.Sized store
     → valueOf (after operation store n) other ≡ valueOf store other
-value-kept operation store n other h sized = same-slot _ _ other (identity-kept operation store n other sized h)
+value-kept operation store n other h sized = same-slot _ _ other (unit-kept operation store n) (identity-kept operation store n other sized h)
 
 operation-legal :
     {id : List ℕ} (operation : Operation) (p : Parameters) (n : ℕ) → Sized p → LegalParameters id p
@@ -286,10 +306,18 @@ operation-legal :
 operation-legal operation p n sized legal =
     record {
       held = sound-kept operation (p .store) n (sized .store) (legal .held);
-      scheduled = legal .scheduled;
+      unit = ap isUnit (unit-kept operation (p .store) n) ∙ legal .unit;
+      scheduled = ap (λ (unit : ℕ). not (isMicra unit) || entries.sound (p .schedule)) (unit-kept operation (p .store) n) ∙ legal .scheduled;
       own-id = value-kept operation (p .store) n 0x007C refl (sized .store) ∙ legal .own-id;
-      unit-type = value-kept operation (p .store) n 0x00B9 refl (sized .store) ∙ legal .unit-type;
+      unit-type = value-kept operation (p .store) n 0x00B9 refl (sized .store) ∙ legal .unit-type ∙ ap unitType (sym (unit-kept operation (p .store) n));
     }
+
+scheduled-kept : (p : Parameters) (value : List ℕ) → entriesSound p ≡ true → entriesSound (parametersOf (p .store) (written (p .schedule) value)) ≡ true
+scheduled-kept p value = by (isMicra (p .store .unit))
+  where
+    by : (micra : Bool) → (not micra || entries.sound (p .schedule)) ≡ true → (not micra || entries.sound (written (p .schedule) value)) ≡ true
+    by true h = schedule.sound-kept (p .schedule) value h
+    by false h = refl
 
 legal-after : {id : List ℕ} (p : Parameters) (c : Command) → Sized p → LegalParameters id p → LegalParameters id (afterCommand p c)
 legal-after {id} p c sized legal =
@@ -297,7 +325,8 @@ legal-after {id} p c sized legal =
     (λ named writes.
     record {
       held = legal .held;
-      scheduled = schedule.sound-kept (p .schedule) (c .value) (legal .scheduled);
+      unit = legal .unit;
+      scheduled = scheduled-kept p (c .value) (legal .scheduled);
       own-id = legal .own-id;
       unit-type = legal .unit-type;
     })
@@ -312,7 +341,7 @@ run-legal :
 run-legal {id} cs p = run-keeps (LegalParameters id) (λ (c : Command). true) (λ q c h. legal-after q c) cs p (every-command cs)
 
 parameters-of : {board : Board} → SoundParts board → LegalParameters (board .id) (board .parameters)
-parameters-of parts = record { held = parts .held; scheduled = parts .scheduled; own-id = parts .own-id; unit-type = parts .unit-type }
+parameters-of parts = record { held = parts .held; unit = parts .unit; scheduled = parts .scheduled; own-id = parts .own-id; unit-type = parts .unit-type }
 
 sound-with : (board : Board) (p : Parameters) → SoundParts board → Sized p × LegalParameters (board .id) p → sound (withParameters board p) ≡ true
 sound-with board p parts legal =
@@ -323,6 +352,7 @@ sound-with board p parts legal =
       password = parts .password;
       mode = parts .mode;
       sized = legal .0;
+      unit = legal .1 .unit;
       held = legal .1 .held;
       scheduled = legal .1 .scheduled;
       own-id = legal .1 .own-id;
@@ -332,27 +362,33 @@ sound-with board p parts legal =
 run-sized : (cs : List Command) (p : Parameters) → Sized p → Sized (run p cs)
 run-sized cs p sized = run-keeps Sized (λ (c : Command). true) (λ q c h size so-far. sized-after q c size) cs p (every-command cs) sized sized .0
 
--- the schedule's number has no row to operate on
-schedule-row : (operation : Operation) (store : Store) (n : ℕ) → eqb n scheduleNumber ≡ true → after operation store n ≡ store
+-- on a Micra the schedule's number has no row to operate on
+schedule-row : (operation : Operation) (store : Store) (n : ℕ) → namesSchedule (store .unit) n ≡ true → after operation store n ≡ store
 unfolding table indexIn
-schedule-row operation store n h = ap (storedIn store n) (ap (newValue operation store) (eqb-true n scheduleNumber h) ∙ nothing operation)
+schedule-row operation store n h = ap (storedIn store n) (by operation)
   where
-    nothing : (o : Operation) → newValue o store scheduleNumber ≡ none
-    nothing (Write v) = refl
-    nothing Raise = refl
-    nothing Lower = refl
-    nothing (Measure v) = refl
+    both : (eqb (store .unit) 2 ≡ true) × (eqb n scheduleNumber ≡ true)
+    both = both-true (eqb (store .unit) 2) (eqb n scheduleNumber) h
+
+    no-row : rowOf (store .unit) n ≡ rowOf 2 scheduleNumber
+    no-row = λ i. rowOf (eqb-true (store .unit) 2 (both .0) i) (eqb-true n scheduleNumber (both .1) i)
+
+    by : (o : Operation) → newValue o store n ≡ none
+    by (Write v) = rw no-row
+    by Raise = rw no-row
+    by Lower = rw no-row
+    by (Measure v) = rw no-row
 
 row-done :
     (p : Parameters) (c : Command) → afterCommand p c .store ≡ done (operationOf c) (p .store) (commandNumber c)
-row-done p c = ap (λ (q : Parameters). q .store) (command-done p c) ∙ by-number (isSchedule c) refl
+row-done p c = ap (λ (q : Parameters). q .store) (command-done p c) ∙ by-number (isSchedule p c) refl
   where
-    untouched : isSchedule c ≡ true → (o : Option Operation) → p .store ≡ done o (p .store) (commandNumber c)
+    untouched : isSchedule p c ≡ true → (o : Option Operation) → p .store ≡ done o (p .store) (commandNumber c)
     untouched named none = refl
     untouched named (some operation) = sym (schedule-row operation (p .store) (commandNumber c) named)
 
     by-number :
-        (is-schedule : Bool) → isSchedule c ≡ is-schedule
+        (is-schedule : Bool) → isSchedule p c ≡ is-schedule
         → cond is-schedule (parametersOf (p .store) (afterEntry (p .schedule) c)) (parametersOf (done (operationOf c) (p .store) (commandNumber c)) (p .schedule)) .store
         ≡ done (operationOf c) (p .store) (commandNumber c)
     by-number true named = untouched named (operationOf c)
@@ -382,17 +418,20 @@ module _ (p : Parameters) (before : List Command) (command : Command) (remaining
   row-after h =
       let n : ℕ = commandNumber command in
       carried-out command n (run p before .store) (run p (before ++ command ∷ remaining) .store) (sized-before .store)
+      (run-unit (before ++ command ∷ remaining) p ∙ sym (run-unit before p))
       (ap (λ (q : Parameters). slotOf (q .store) n) run-after
       ∙ run-others n remaining (afterCommand (run p before) command) h (sized-after (run p before) command sized-before)
       ∙ ap (λ (s : Store). slotOf s n) (row-done (run p before) command))
 
   entry-after :
-      (day period : ℕ) → isDay day ≡ true → isPeriod period ≡ true → storesEntry day period command ≡ true
-      → noneStores day period remaining ≡ true → entryAt (run p (before ++ command ∷ remaining) .schedule) day period ≡ entryIn (command .value)
+      (day period : ℕ) → isDay day ≡ true → isPeriod period ≡ true → storesEntry (p .store .unit) day period command ≡ true
+      → noneStores (p .store .unit) day period remaining ≡ true → entryAt (run p (before ++ command ∷ remaining) .schedule) day period ≡ entryIn (command .value)
   entry-after day period is-day is-period stored h =
       ap (λ (q : Parameters). entryAt (q .schedule) day period) run-after
-      ∙ run-entries day period is-day is-period remaining (afterCommand (run p before) command) h (sized-after (run p before) command sized-before)
-      ∙ entry-stored day period is-day is-period (run p before) command sized-before stored
+      ∙ run-entries day period is-day is-period (p .store .unit) remaining (afterCommand (run p before) command)
+      (sym (unit-after (run p before) command ∙ run-unit before p)) h (sized-after (run p before) command sized-before)
+      ∙ entry-stored day period is-day is-period (run p before) command sized-before
+      (ap (λ (unit : ℕ). storesEntry unit day period command) (run-unit before p) ∙ stored)
 
 -- the model's reading of a packet's commands
 pub asked : (c : Call) (cs : List Command) → Asks c cs → commandsOf (request c) ≡ cs
@@ -409,7 +448,7 @@ no-discovery c other = by-tests (eqb (c .board .mode) 1) (same (frameOf (c .pack
 -- a packet that is no discovery: what its commands report, and what they leave if it is accepted
 module _ (c : Call) (other : isDiscovery (request c) ≡ false) where
   pub commands-report : reportsOf (request c) ≡ runReports (c .board .parameters) (commandsOf (request c))
-  commands-report = ap (λ (d : Bool). cond d (discoverReports (c .board .id) (commandsOf (request c))) (runReports (c .board .parameters) (commandsOf (request c)))) other
+  commands-report = ap (λ (d : Bool). cond d (discoverReports (c .board .id) (unitOf (c .board)) (commandsOf (request c))) (runReports (c .board .parameters) (commandsOf (request c)))) other
 
   pub commands-leave : stepRefusal c ≡ none → step c .board ≡ withParameters (c .board) (run (c .board .parameters) (commandsOf (request c)))
   commands-leave accepted =
@@ -419,7 +458,7 @@ module _ (c : Call) (other : isDiscovery (request c) ≡ false) where
 no-reports : (c : Call) → Asks c [] → reportsOf (request c) ≡ []
 unfolding discoverReports
 no-reports c e =
-    ap (λ (cs : List Command). cond (isDiscovery (request c)) (discoverReports (c .board .id) cs) (runReports (c .board .parameters) cs)) (asked c [] e)
+    ap (λ (cs : List Command). cond (isDiscovery (request c)) (discoverReports (c .board .id) (unitOf (c .board)) cs) (runReports (c .board .parameters) cs)) (asked c [] e)
     ∙ ap (cond (isDiscovery (request c)) []) (none-run (c .board .parameters) .reports)
     ∙ cond-same (isDiscovery (request c)) []
 
@@ -458,20 +497,28 @@ step-sound c legal =
     on-sound (λ (b : Board). sound b ≡ true) c legal
     (λ parts. sound-with (c .board) _ parts (run-legal (commandsOf (request c)) (c .board .parameters) (parts .sized) (parameters-of parts)))
 
+packet-identity : (c : Call) → SameIdentity (c .board) (step c .board)
+packet-identity c =
+    on-step (SameIdentity (c .board)) c (same-identity (c .board) (c .board .parameters) refl)
+    (same-identity (c .board) _ (run-unit (commandsOf (request c)) (c .board .parameters)))
+
 pub packets-change : PacketsChange
 packets-change c =
     record {
-      identity = on-step (SameIdentity (c .board)) c (same-identity (c .board) (c .board .parameters)) (same-identity (c .board) _);
+      identity = packet-identity c;
       others = λ cs e n h.
           on-sound (λ (b : Board). slotOf (b .parameters .store) n ≡ slotOf (c .board .parameters .store) n) c refl
           (λ parts. run-others n (commandsOf (request c)) (c .board .parameters) (ap (noneChanges n) (asked c cs e) ∙ h) (parts .sized));
       entries = λ cs e day period is-day is-period h.
           on-sound (λ (b : Board). entryAt (b .parameters .schedule) day period ≡ entryAt (c .board .parameters .schedule) day period) c refl
-          (λ parts. run-entries day period is-day is-period (commandsOf (request c)) (c .board .parameters) (ap (noneStores day period) (asked c cs e) ∙ h) (parts .sized));
+          (λ parts. run-entries day period is-day is-period (unitOf (c .board)) (commandsOf (request c)) (c .board .parameters) refl (ap (noneStores (unitOf (c .board)) day period) (asked c cs e) ∙ h) (parts .sized));
       silent = no-reports c;
       runs = runs c;
       legal = step-sound c;
-      members = λ h n row. held-legal (step c .board .parameters .store) n (sound-parts (step c .board) (step-sound c h) .held) row;
+      members = λ h n row.
+          let same : unitOf (step c .board) ≡ unitOf (c .board) = packet-identity c .unit in
+          ap (λ (unit : ℕ). member (rowOf unit n .set) (valueOf (step c .board .parameters .store) n)) (sym same)
+          ∙ held-legal (step c .board .parameters .store) n (sound-parts (step c .board) (step-sound c h) .held) (ap (λ (unit : ℕ). allows unit n 1) same ∙ row);
     }
 
 on-measured :
@@ -486,8 +533,8 @@ on-measured P c unchanged changed = by-refusal (measureRefusal c) refl
     by-refusal (some number) e = unchanged
 
 measurement-accepted :
-    (c : MeasureCall) → sound (c .board) ≡ true → allows (c .number) 1 ≡ true → allows (c .number) 2 ≡ false
-    → eqb (c .number) 0x007C ≡ false → eqb (c .number) 0x00B9 ≡ false → length (c .value) ≡ sizeOf (rowOf (c .number) .set) → measureRefusal c ≡ none
+    (c : MeasureCall) → sound (c .board) ≡ true → allows (unitOf (c .board)) (c .number) 1 ≡ true → allows (unitOf (c .board)) (c .number) 2 ≡ false
+    → eqb (c .number) 0x007C ≡ false → eqb (c .number) 0x00B9 ≡ false → length (c .value) ≡ sizeOf (rowOf (unitOf (c .board)) (c .number) .set) → measureRefusal c ≡ none
 unfolding measureRefusal measureRefusals firstRefusal
 measurement-accepted c legal row read-only not-id not-type size = rw (legal, row, read-only, not-id, not-type, eq-eqb _ _ size)
 
@@ -498,8 +545,8 @@ measured-value c e =
     let thirty = not-refused _ _ c (seventy .1) in
     let thirty-one = not-refused _ _ c (thirty .1) in
     let sized : Sized (c .board .parameters) = sound-parts (c .board) (not-false _ (seventy .0)) .sized in
-    let row : measurable (c .number) ≡ true = not-false _ (thirty .0) in
-    let size : eqb (length (c .value)) (sizeOf (rowOf (c .number) .set)) ≡ true = not-false _ (thirty-one .0) in
+    let row : measurable (unitOf (c .board)) (c .number) ≡ true = not-false _ (thirty .0) in
+    let size : eqb (length (c .value)) (sizeOf (rowOf (unitOf (c .board)) (c .number) .set)) ≡ true = not-false _ (thirty-one .0) in
     let stored : newValue (Measure (c .value)) (c .board .parameters .store) (c .number) ≡ some (c .value) = rw (row, size) in
     ap (λ (o : Option ℕ). valueOf (measuredBy o c .parameters .store) (c .number)) e
     ∙ read-back (Measure (c .value)) (c .board .parameters .store) (c .number) (c .value) (sized .store) stored
@@ -507,7 +554,8 @@ measured-value c e =
 pub measurements-change : MeasurementsChange
 measurements-change c =
     record {
-      identity = on-measured (SameIdentity (c .board)) c (same-identity (c .board) (c .board .parameters)) (λ parts. same-identity (c .board) _);
+      identity = on-measured (SameIdentity (c .board)) c (same-identity (c .board) (c .board .parameters) refl)
+          (λ parts. same-identity (c .board) _ (unit-kept (Measure (c .value)) (c .board .parameters .store) (c .number)));
       accepted = measurement-accepted c;
       stored = measured-value c;
       others = λ n h.
@@ -523,12 +571,18 @@ measurements-change c =
           ));
     }
 
+start-unit : (given : SetUp) → start (given .id) (given .unit) .unit ≡ given .unit
+unfolding start
+start-unit given = refl
+
 started : (given : SetUp) → setUpRefusal given ≡ none → sound (startBoard given) ≡ true
 unfolding setUpRefusal setUpRefusals
 started given e =
     let twenty = not-refused _ _ given e in
     let twenty-one = not-refused _ _ given (twenty .1) in
     let twenty-two = not-refused _ _ given (twenty-one .1) in
+    let twenty-three = not-refused _ _ given (twenty-two .1) in
+    let unit : isUnit (given .unit) ≡ true = not-false _ (twenty-three .0) in
     let id : isId (given .id) ≡ true = not-false _ (twenty .0) in
     let id-size : length (given .id) ≡ 16 = eqb-true _ _ (both-true (eqb (length (given .id)) 16) _ id .0) in
     let password : (leb (length (given .password)) 8 ≡ true) × (allAlphanumeric (given .password) ≡ true) =
@@ -539,11 +593,12 @@ started given e =
       size = password .0;
       password = rw (take-at (given .password) (replicate (8 - length (given .password)) 0) (length (given .password)) refl) (password .1);
       mode = not-false _ (twenty-two .0);
-      sized = record { store = start-sized (given .id) id-size; schedule = schedule.start-sized };
-      held = start-sound (given .id) id-size;
-      scheduled = schedule.start-sound;
-      own-id = start-identity (given .id) id-size .0;
-      unit-type = start-identity (given .id) id-size .1;
+      sized = record { store = start-sized (given .id) (given .unit); schedule = schedule.start-sized };
+      unit = ap isUnit (start-unit given) ∙ unit;
+      held = start-sound (given .id) (given .unit) id-size;
+      scheduled = rw schedule.start-sound (or-true (not (isMicra (unitOf (startBoard given)))));
+      own-id = start-identity (given .id) (given .unit) id-size unit .0;
+      unit-type = start-identity (given .id) (given .unit) id-size unit .1 ∙ ap unitType (sym (start-unit given));
     })
 
 unset-accepted : setUpRefusal unset ≡ none

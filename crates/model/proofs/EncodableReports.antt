@@ -14,7 +14,7 @@ use Rattle.block.specs.Encoding.{encodableReport, every}
 use Rattle.block.proofs.Decoded.{isLow, low-bytes}
 use Rattle.block.proofs.Every.{every-join}
 use Rattle.store.specs.Layout.{valueOf}
-use Rattle.store.specs.Rows.{known}
+use Rattle.rows.specs.Rows.{known}
 use Rattle.store.specs.Sound as stored
 use Rattle.store.proofs.Laws.{sound-kept, held-length}
 use Rattle.schedule.specs.Operations.{answered, reportOf}
@@ -23,7 +23,7 @@ use Rattle.schedule.specs.declared.Answer.the-variants as answer
 use Rattle.schedule.specs.declared.Schedule.{Schedule}
 use Rattle.model.specs.Changes.{ReportsHeld}
 use Rattle.model.specs.Commands.{isSchedule, afterCommand, entryReport, reported, runReports, discovered, discoverReports}
-use Rattle.model.specs.Record.{micra, sound}
+use Rattle.model.specs.Record.{unitType, unitOf, sound}
 use Rattle.model.specs.Step.{Request, isDiscovery, decoded, commandsOf, reportsOf}
 use Rattle.model.specs.declared.Parameters.{Parameters}
 use Rattle.model.proofs.Changed.{entry-reported, values-reported, on-command, sized-after}
@@ -63,13 +63,13 @@ encodable-entry answer.Silence schedule c low = refl
 
 pub encodable-reported : (p : Parameters) (c : Command) → stored.sound (p .store) ≡ true → isLow c ≡ true → allEncodable (reported p c)
 unfolding every
-encodable-reported p c is-sound low = by-answer (isSchedule c) (eqb (c .function) 2) (known (commandNumber c)) refl refl refl
+encodable-reported p c is-sound low = by-answer (isSchedule p c) (eqb (c .function) 2) (known (p .store .unit) (commandNumber c)) refl refl refl
   where
     reports : ReportsHeld p c
     reports = values-reported p c
 
     by-answer :
-        (is-schedule silent row : Bool) → isSchedule c ≡ is-schedule → eqb (c .function) 2 ≡ silent → known (commandNumber c) ≡ row
+        (is-schedule silent row : Bool) → isSchedule p c ≡ is-schedule → eqb (c .function) 2 ≡ silent → known (p .store .unit) (commandNumber c) ≡ row
         → allEncodable (reported p c)
     by-answer true silent row h s k = rw (entry-reported p c h) (encodable-entry (answered (c .function) (c .value)) (p .schedule) c low)
     by-answer false true row h s k = rw (reports .silence s)
@@ -90,22 +90,22 @@ run-encodable (c ∷ cs) p fit low =
     (run-encodable cs (afterCommand p c) next (both .1))
 
 -- of a discovery
-module _ (id : List ℕ) (sixteen : length id ≡ 16) where
-  discovered-encodable : (c : Command) → isLow c ≡ true → allEncodable (discovered id c)
+module _ (id : List ℕ) (unit : ℕ) (sixteen : length id ≡ 16) where
+  discovered-encodable : (c : Command) → isLow c ≡ true → allEncodable (discovered id unit c)
   unfolding discovered every
   discovered-encodable c low = by-number (eqb (commandNumber c) 0x007C) (eqb (commandNumber c) 0x00B9)
     where
-      by-number : (is-id is-type : Bool) → allEncodable (cond is-id (held (c .page) (c .low) id ∷ []) (cond is-type (held (c .page) (c .low) micra ∷ []) []))
+      by-number : (is-id is-type : Bool) → allEncodable (cond is-id (held (c .page) (c .low) id ∷ []) (cond is-type (held (c .page) (c .low) (unitType unit) ∷ []) []))
       by-number true is-type = encodable-held c id low (omega arith) (omega arith)
-      by-number false true = encodable-held c micra low (omega arith) (omega arith)
+      by-number false true = encodable-held c (unitType unit) low (omega arith) (omega arith)
       by-number false false = refl
 
-  discovery-encodable : (cs : List Command) → every isLow cs ≡ true → allEncodable (discoverReports id cs)
+  discovery-encodable : (cs : List Command) → every isLow cs ≡ true → allEncodable (discoverReports id unit cs)
   unfolding discoverReports every
   discovery-encodable [] low = refl
   discovery-encodable (c ∷ cs) low =
       let both = both-true (isLow c) (every isLow cs) low in
-      encodable-join (discovered id c) (discoverReports id cs) (discovered-encodable c (both .0)) (discovery-encodable cs (both .1))
+      encodable-join (discovered id unit c) (discoverReports id unit cs) (discovered-encodable c (both .0)) (discovery-encodable cs (both .1))
 
 low-commands : (r : Request) → every isLow (commandsOf r) ≡ true
 unfolding every
@@ -123,7 +123,7 @@ reports-encodable r legal = by-discovery (isDiscovery r)
 
     by-discovery :
         (discovery : Bool)
-        → allEncodable (cond discovery (discoverReports (r .board .id) (commandsOf r)) (runReports (r .board .parameters) (commandsOf r)))
-    by-discovery true = discovery-encodable (r .board .id) (id-length (r .board) legal) (commandsOf r) (low-commands r)
+        → allEncodable (cond discovery (discoverReports (r .board .id) (unitOf (r .board)) (commandsOf r)) (runReports (r .board .parameters) (commandsOf r)))
+    by-discovery true = discovery-encodable (r .board .id) (unitOf (r .board)) (id-length (r .board) legal) (commandsOf r) (low-commands r)
     by-discovery false =
         run-encodable (commandsOf r) (r .board .parameters) (record { size = parts .sized; is-sound = parts .held }) (low-commands r)

@@ -1,30 +1,31 @@
 -- Demand 1: the statements of specs/Refusals.antt hold.
-use Prim.Native.Nat.{ℕ, _+_, _≤_}
+use Prim.Native.Nat.{ℕ, _+_, _≤_, _<_}
 use native.Mathlib.Omega.{arith}
 use mathlib.Core.Bool.{Bool, true, false, cond, not, _&&_, _||_, and-false}
 use mathlib.Core.List.{List, [], _∷_}
-use mathlib.Core.Logic.{_↔_, _⊎_, inl, inr}
+use mathlib.Core.Logic.{_↔_, _⊎_, inl, inr, ⊎-elim}
 use mathlib.Core.Option.{Option, none, some, orElse}
 use mathlib.Core.Path.{_≡_, refl, ap, subst, _∙_}
-use borrow.Author.Tests.{ltb-false, le-ltb, le-leb, eqb-true, not-true, not-false}
-use lib.Dec.{eqb}
+use borrow.Author.Tests.{ltb-false, le-ltb, le-leb, lt-leb, ne-eqb, eqb-true, not-true, not-false}
+use lib.Dec.{eqb, leb}
 use lib.ListN.{length, drop}
 use lib.Seq.{take-at, drop-at}
 use Rattle.octets.specs.Octets.{same, overwrite}
 use Rattle.octets.proofs.Booleans.{both-true}
 use Rattle.octets.proofs.Same.{same-equal}
 use Rattle.framing.specs.Frame.{packetOf, packetLength}
-use Rattle.framing.specs.Identity.{defaultId}
+use Rattle.framing.specs.Identity.{defaultId, isPassword}
 use Rattle.framing.specs.Packet.{packetRefusal}
 use Rattle.framing.specs.Refusal.{Refusal, firstRefusal}
 use Rattle.framing.proofs.Refusals.{not-refused}
 use Rattle.framing.proofs.Writing.{length-packet}
 use Rattle.block.specs.Command.{Report}
+use Rattle.store.specs.Start.{start}
 use Rattle.model.specs.Authentication.{passes}
 use Rattle.model.specs.Conditions.{otherThanReads}
 use Rattle.model.specs.Measurement.{measureRefusals, measureRefusal, measuredBy, measuredBoard}
-use Rattle.model.specs.Record.{verdictOf, client, accessPoint, passwordOf, setUpRefusals, setUpRefusal, boardOf, setUpBoard, sound}
-use Rattle.model.specs.Refusals.{Earliest, first, later, NoneApplies, Silent, Responds, PacketsAnswered, Authorized, AuthorizedAnswered, MeasurementsAnswered, SetUpsAnswered}
+use Rattle.model.specs.Record.{verdictOf, client, accessPoint, isMode, isId, isUnit, passwordOf, unitOf, SetUp, setUpRefusals, setUpRefusal, boardOf, setUpBoard, sound}
+use Rattle.model.specs.Refusals.{Earliest, first, later, NoneApplies, Silent, Responds, PacketsAnswered, Authorized, AuthorizedAnswered, MeasurementsAnswered, SetUpsAnswered, JudgesUnit, UnitsJudged}
 use Rattle.model.specs.Step.{Call, Request, request, isDiscovery, otherId, reportsOf, response, stepRefusals, stepRefusal, Outcome, outcomeOf, answerWith, outcomeBy, step}
 use Rattle.model.proofs.Soundness.{sound-parts, id-length}
 use Rattle.model.proofs.StepRefusals.{no-refusal, request-refusal-by, step-refusal-by, step-refused, step-answered, passed-request, PassedStep, passed-step}
@@ -201,3 +202,40 @@ authorized-passes c a =
 
 pub authorized-answered : AuthorizedAnswered
 authorized-answered c a = none-answered c (authorized-passes c a)
+
+-- the unit type of a set-up
+module _ (given : SetUp) (id : isId (given .id) ≡ true) (password : isPassword (given .password) ≡ true) where
+  set-up-by :
+      {mode-wrong unit-wrong : Bool} → not (isMode (given .mode)) ≡ mode-wrong → not (isUnit (given .unit)) ≡ unit-wrong
+      → setUpRefusal given ≡ cond mode-wrong (some 22) (cond unit-wrong (some 23) none)
+  unfolding setUpRefusal setUpRefusals firstRefusal
+  set-up-by m u = λ i. cond (not (id i)) (some 20) (cond (not (password i)) (some 21) (cond (m i) (some 22) (cond (u i) (some 23) none)))
+
+  mode-right : (given .mode ≡ 1) ⊎ (given .mode ≡ 2) → not (isMode (given .mode)) ≡ false
+  mode-right m = ⊎-elim (λ e. ap (λ (mode : ℕ). not (isMode mode)) e) (λ e. ap (λ (mode : ℕ). not (isMode mode)) e) m
+
+  unit-outside : (given .unit < 2) ⊎ (5 < given .unit) → not (isUnit (given .unit)) ≡ true
+  unit-outside u =
+      ⊎-elim
+      (λ h. ap (λ (b : Bool). not (b && leb (given .unit) 5)) (lt-leb 2 (given .unit) h))
+      (λ h. ap not (ap (λ (b : Bool). leb 2 (given .unit) && b) (lt-leb (given .unit) 5 h) ∙ and-false (leb 2 (given .unit))))
+      u
+
+  made : {o : Option ℕ} → setUpRefusal given ≡ o → unitOf (setUpBoard given) ≡ unitOf (boardOf o given)
+  unfolding setUpBoard
+  made e = ap (λ (o : Option ℕ). unitOf (boardOf o given)) e
+
+  judges-unit : JudgesUnit given
+  unfolding start
+  judges-unit =
+      record {
+        mode-first = λ one two. ap verdictOf (set-up-by {mode-wrong = true} (rw (ne-eqb (given .mode) 1 one, ne-eqb (given .mode) 2 two)) refl);
+        unit-wrong = λ m u. ap verdictOf (set-up-by (mode-right m) (unit-outside u));
+        accepted = λ m low high.
+            let none-applies = set-up-by {unit-wrong = false} (mode-right m) (rw (le-leb 2 (given .unit) low, le-leb (given .unit) 5 high)) in
+            (ap verdictOf none-applies, made none-applies);
+        refused = λ number e. made (verdict-number (setUpRefusal given) e);
+      }
+
+pub units-judged : UnitsJudged
+units-judged given id password = judges-unit given id password

@@ -4,7 +4,7 @@ use mathlib.Core.List.{List, _∷_}
 use mathlib.Core.Path.{_≡_, refl, sym, ap, subst, subst₂, _∙_}
 use Rattle.model.specs.Discovery.{Reply, replyOf}
 use Rattle.model.specs.Noninterference.{ListedCall, replied, judged, boardAfter, returned, Unauthenticated, ends, returns, Alike, Discoverable, Claim}
-use Rattle.model.specs.Record.{passwordOf}
+use Rattle.model.specs.Record.{passwordOf, unitOf}
 use Rattle.model.specs.Trace.{OwnMade, packetMade, measurementMade, Trace, ended, madeBoth, madeFirst, madeSecond, ownCall, ownReturned, callsOf, endsOf, returnsOf, AlikeMade, DiscoverableMade, TraceClaim, TraceNoninterference}
 use Rattle.model.specs.declared.Board.{Board}
 use Rattle.model.proofs.Noninterfering.{noninterference}
@@ -49,7 +49,7 @@ trace-alike (madeBoth packet buffer left right one two contract contract′ late
 trace-alike {first} {second} (madeFirst own later) h = trace-alike later (subst (λ (a : Board). Alike a second (callsOf later)) (sym (own-board own)) h)
 trace-alike {first} {second} (madeSecond own later) h = trace-alike later (subst (λ (b : Board). Alike first b (callsOf later)) (sym (own-board own)) h)
 
-discoverable-made : {id : List ℕ} {mode : ℕ} {board : Board} → Discoverable id mode board → DiscoverableMade id mode board
+discoverable-made : {id : List ℕ} {unit mode : ℕ} {board : Board} → Discoverable id unit mode board → DiscoverableMade id unit mode board
 discoverable-made d =
     record {
       unchanged = λ packet buffer after result contract h. contract .board ∙ d .unchanged packet buffer h;
@@ -57,23 +57,23 @@ discoverable-made d =
           (λ i. replyOf (contract .answer i) (contract .buffer i)) ∙ d .answered packet buffer h room;
     }
 
-traced : {id : List ℕ} {mode : ℕ} {first second : Board} (trace : Trace first second) → Claim id mode first second (callsOf trace) → TraceClaim id mode trace
-traced {id} {mode} {first} {second} trace claim =
+traced : {id : List ℕ} {unit mode : ℕ} {first second : Board} (trace : Trace first second) → Claim id unit mode first second (callsOf trace) → TraceClaim id unit mode trace
+traced {id} {unit} {mode} {first} {second} trace claim =
     record {
       alike = trace-alike trace (claim .alike);
       same-ends = λ other e. trace-ends trace ∙ claim .same-ends ∙ ap (ends first second) (sym e) ∙ sym (trace-ends other);
       same-returns = λ other e. trace-returns trace ∙ claim .same-returns ∙ ap (returns first second) (sym e) ∙ sym (trace-returns other);
-      first-discoverable = discoverable-made (subst (λ (b : Board × Board). Discoverable id mode (b .0)) (sym (trace-ends trace)) (claim .first-discoverable));
-      second-discoverable = discoverable-made (subst (λ (b : Board × Board). Discoverable id mode (b .1)) (sym (trace-ends trace)) (claim .second-discoverable));
+      first-discoverable = discoverable-made (subst (λ (b : Board × Board). Discoverable id unit mode (b .0)) (sym (trace-ends trace)) (claim .first-discoverable));
+      second-discoverable = discoverable-made (subst (λ (b : Board × Board). Discoverable id unit mode (b .1)) (sym (trace-ends trace)) (claim .second-discoverable));
     }
 
 -- the claim for two boards
 Holds : Board → Board → Type 0
 Holds first second =
-    first .id ≡ second .id → first .mode ≡ second .mode → (calls : List ListedCall) → Unauthenticated (passwordOf first) (passwordOf second) calls
-    → Claim (first .id) (first .mode) first second calls
+    first .id ≡ second .id → unitOf first ≡ unitOf second → first .mode ≡ second .mode → (calls : List ListedCall) → Unauthenticated (passwordOf first) (passwordOf second) calls
+    → Claim (first .id) (unitOf first) (first .mode) first second calls
 
 pub trace-noninterference : TraceNoninterference
 unfolding Holds
-trace-noninterference first second one two made made′ same-id same-mode trace h =
-    traced trace (subst₂ Holds (sym (made .made)) (sym (made′ .made)) (noninterference first second) same-id same-mode (callsOf trace) h)
+trace-noninterference first second one two made made′ same-id same-unit same-mode trace h =
+    traced trace (subst₂ Holds (sym (made .made)) (sym (made′ .made)) (noninterference first second) same-id same-unit same-mode (callsOf trace) h)

@@ -21,7 +21,7 @@ use Rattle.model.specs.Conditions.{discoversIn, otherThanReads}
 use Rattle.model.specs.Commands.{run, runReports, discoverReports}
 use Rattle.model.specs.Discovery.{Reply, replyOf, Discovery, foundReports, foundResponse, discovery, discoveryRefusals, replyWith, replyBy, discoveryReply}
 use Rattle.model.specs.PublicReply.{bufferedReply, publicRefusal, publicReply, UnauthenticatedAnswered}
-use Rattle.model.specs.Record.{client, passwordOf, withParameters, sound}
+use Rattle.model.specs.Record.{client, passwordOf, unitOf, withParameters, sound}
 use Rattle.model.specs.Step.{Request, requestOf, call, isDiscovery, commandsOf, reportsOf, response, otherId, requestRefusals, stepRefusal, Outcome, outcomeOf, nextBoard, answerWith, outcomeBy, step}
 use Rattle.model.specs.declared.Answer.the-variants.{Refused, Silence, Response}
 use Rattle.model.specs.declared.Board.{Board}
@@ -48,12 +48,12 @@ module _ (board : Board) (packet : List ℕ) where
   asked = requestOf board (frameOf packet)
 
   found : Discovery
-  found = discovery packet (board .id)
+  found = discovery packet (board .id) (unitOf board)
 
   module _ (is-discovery : discoversIn (board .mode) (frameOf packet) ≡ true) where
     reports-found : reportsOf asked ≡ foundReports found
     unfolding asked found
-    reports-found = ap (λ (d : Bool). cond d (discoverReports (board .id) (commandsOf asked)) (runReports (board .parameters) (commandsOf asked))) is-discovery
+    reports-found = ap (λ (d : Bool). cond d (discoverReports (board .id) (unitOf board) (commandsOf asked)) (runReports (board .parameters) (commandsOf asked))) is-discovery
 
     response-found : response asked ≡ foundResponse found
     unfolding asked found
@@ -96,7 +96,7 @@ module _ (board : Board) (packet : List ℕ) where
     refusal-by = step-refusal-by (call board packet buffer) (ap not legal)
 
     -- a discovery, whatever password it bears
-    pub discovery-step : discovers (board .mode) packet ≡ true → step (call board packet buffer) ≡ withReply board (bufferedReply packet (board .id) buffer)
+    pub discovery-step : discovers (board .mode) packet ≡ true → step (call board packet buffer) ≡ withReply board (bufferedReply packet (board .id) (unitOf board) buffer)
     unfolding asked found step discoveryReply orElse
     discovery-step h =
         let parts = both-true (passes packet) (discoversIn (board .mode) (frameOf packet)) h in
@@ -133,13 +133,13 @@ module _ (board : Board) (packet : List ℕ) where
 
     unauthenticated-step :
         bears packet (passwordOf board) ≡ false
-        → step (call board packet buffer) ≡ withReply board (publicReply (board .mode) (board .id) packet buffer)
+        → step (call board packet buffer) ≡ withReply board (publicReply (board .mode) (board .id) (unitOf board) packet buffer)
     unauthenticated-step unknown = by-discovery (discovers (board .mode) packet) refl
       where
         by-discovery :
             (d : Bool) → discovers (board .mode) packet ≡ d
             → step (call board packet buffer)
-            ≡ withReply board (cond d (bufferedReply packet (board .id) buffer) (replyOf (Refused (publicRefusal (board .id) packet buffer)) buffer))
+            ≡ withReply board (cond d (bufferedReply packet (board .id) (unitOf board) buffer) (replyOf (Refused (publicRefusal (board .id) packet buffer)) buffer))
         by-discovery true h = discovery-step h
         by-discovery false h = refused-step h unknown
 

@@ -1,5 +1,4 @@
--- The answer to a discovery (the search of document 01): from the packet, the board's ID and the response buffer alone. The unit type
--- is the same on every board.
+-- The answer to a discovery (the search of document 01): from the packet, the board's ID, its unit type and the response buffer alone.
 use Prim.Native.Nat.{ℕ}
 use mathlib.Core.List.{List, [], _∷_}
 use mathlib.Core.Option.{Option, none, some, Option·getD}
@@ -25,17 +24,18 @@ pub record Reply : Type 0 where
 abbrev pub replyOf : Answer → List ℕ → Reply
 replyOf answer buffer = record { answer = answer; buffer = buffer }
 
--- what is asked, and the ID of the board that is asked
+-- what is asked, and the ID and the unit type of the board that is asked
 pub record Discovery : Type 0 where
   pub asked : Frame
   pub id : List ℕ
+  pub unit : ℕ
 
-abbrev pub discovery : List ℕ → List ℕ → Discovery
-discovery packet id = record { asked = frameOf packet; id = id }
+abbrev pub discovery : List ℕ → List ℕ → ℕ → Discovery
+discovery packet id unit = record { asked = frameOf packet; id = id; unit = unit }
 
 -- each 007C reports the ID and each 00B9 the unit type, in the order of the commands
 abbrev pub foundReports : Discovery → List Report
-foundReports d = discoverReports (d .id) (Option·getD (commandsIn (d .asked)) [])
+foundReports d = discoverReports (d .id) (d .unit) (Option·getD (commandsIn (d .asked)) [])
 
 -- with the password block of the packet
 abbrev pub foundResponse : Discovery → Frame
@@ -60,5 +60,5 @@ abbrev pub replyBy : Option ℕ → Discovery → List ℕ → Reply
 replyBy (some number) d buffer = replyOf (Refused number) buffer
 replyBy none d buffer = replyWith (foundReports d) d buffer
 
-unfoldable pub discoveryReply : List ℕ → List ℕ → List ℕ → Reply
-discoveryReply packet id buffer = replyBy (firstRefusal discoveryRefusals (discovery packet id)) (discovery packet id) buffer
+unfoldable pub discoveryReply : List ℕ → List ℕ → ℕ → List ℕ → Reply
+discoveryReply packet id unit buffer = replyBy (firstRefusal discoveryRefusals (discovery packet id unit)) (discovery packet id unit) buffer

@@ -7,10 +7,10 @@ use mathlib.Core.Path.{_≡_}
 use lib.Dec.{eqb}
 use lib.ListN.{length}
 use Rattle.framing.specs.Refusal.{Refusal, refusal, firstRefusal}
-use Rattle.store.specs.Layout.{sizeOf}
+use Rattle.rows.specs.Layout.{sizeOf}
 use Rattle.store.specs.Operations.{measurable, measured}
-use Rattle.store.specs.Rows.{rowOf}
-use Rattle.model.specs.Record.{sound, verdictOf, parametersOf, withParameters}
+use Rattle.rows.specs.Rows.{rowOf}
+use Rattle.model.specs.Record.{sound, verdictOf, unitOf, parametersOf, withParameters}
 use Rattle.model.specs.declared.Answered.{Answered}
 use Rattle.model.specs.declared.Board.{Board}
 
@@ -25,8 +25,8 @@ measureCall board number value = record { board = board; number = number; value 
 unfoldable pub measureRefusals : List (Refusal MeasureCall)
 measureRefusals =
     refusal 70 (λ (c : MeasureCall). not (sound (c .board)))
-    ∷ refusal 30 (λ (c : MeasureCall). not (measurable (c .number)))
-    ∷ refusal 31 (λ (c : MeasureCall). not (eqb (length (c .value)) (sizeOf (rowOf (c .number) .set))))
+    ∷ refusal 30 (λ (c : MeasureCall). not (measurable (unitOf (c .board)) (c .number)))
+    ∷ refusal 31 (λ (c : MeasureCall). not (eqb (length (c .value)) (sizeOf (rowOf (unitOf (c .board)) (c .number) .set))))
     ∷ []
 
 unfoldable pub measureRefusal : MeasureCall → Option ℕ

@@ -9,7 +9,7 @@ use Rattle.model.specs.Authentication.{bears, discovers}
 use Rattle.model.specs.Discovery.{Reply, discoveryReply}
 use Rattle.model.specs.Measurement.{measureCall, measureRefusal, measuredBoard}
 use Rattle.model.specs.PublicReply.{replyTo}
-use Rattle.model.specs.Record.{verdictOf, passwordOf, SetUp, setUpBoard}
+use Rattle.model.specs.Record.{verdictOf, passwordOf, unitOf, SetUp, setUpBoard}
 use Rattle.model.specs.Step.{call, step}
 use Rattle.model.specs.declared.Board.{Board}
 use Rattle.model.specs.declared.Verdict.{Verdict}
@@ -82,26 +82,27 @@ Alike first second (toBoth packet buffer ∷ calls) =
 Alike first second (toFirst own ∷ calls) = Alike (boardAfter first own) second calls
 Alike first second (toSecond own ∷ calls) = Alike first (boardAfter second own) calls
 
--- a discovery leaves the board as it was, and is answered from the packet and the ID, whatever password it bears
-pub record Discoverable (id : List ℕ) (mode : ℕ) (board : Board) : Type 0 where
+-- a discovery leaves the board as it was, and is answered from the packet, the ID and the unit type, whatever password it bears
+pub record Discoverable (id : List ℕ) (unit mode : ℕ) (board : Board) : Type 0 where
   pub unchanged : (packet buffer : List ℕ) → discovers mode packet ≡ true → step (call board packet buffer) .board ≡ board
   pub answered :
-      (packet buffer : List ℕ) → discovers mode packet ≡ true → 256 ≤ length buffer → replyTo board packet buffer ≡ discoveryReply packet id buffer
+      (packet buffer : List ℕ) → discovers mode packet ≡ true → 256 ≤ length buffer → replyTo board packet buffer ≡ discoveryReply packet id unit buffer
 
--- the claim, for two boards with this ID and this mode in force
-pub record Claim (id : List ℕ) (mode : ℕ) (first second : Board) (calls : List ListedCall) : Type 0 where
+-- the claim, for two boards with this ID, this unit type and this mode in force
+pub record Claim (id : List ℕ) (unit mode : ℕ) (first second : Board) (calls : List ListedCall) : Type 0 where
   -- an unauthenticated packet learns nothing and changes nothing
   pub alike : Alike first second calls
   -- without these packets the boards end with the same records, and their own calls return the same
   pub same-ends : ends first second calls ≡ ends first second (without calls)
   pub same-returns : returns first second calls ≡ returns first second (without calls)
   -- a discovery after the list
-  pub first-discoverable : Discoverable id mode (ends first second calls .0)
-  pub second-discoverable : Discoverable id mode (ends first second calls .1)
+  pub first-discoverable : Discoverable id unit mode (ends first second calls .0)
+  pub second-discoverable : Discoverable id unit mode (ends first second calls .1)
 
--- for any two set-ups, refused ones included, whose boards have the same ID and mode in force (the unit type is Micra on every board)
+-- for any two set-ups, refused ones included, whose boards have the same ID, unit type and mode in force
 abbrev pub Noninterference : Type 0
 Noninterference =
-    (first second : SetUp) → setUpBoard first .id ≡ setUpBoard second .id → setUpBoard first .mode ≡ setUpBoard second .mode
+    (first second : SetUp) → setUpBoard first .id ≡ setUpBoard second .id → unitOf (setUpBoard first) ≡ unitOf (setUpBoard second)
+    → setUpBoard first .mode ≡ setUpBoard second .mode
     → (calls : List ListedCall) → Unauthenticated (passwordOf (setUpBoard first)) (passwordOf (setUpBoard second)) calls
-    → Claim (setUpBoard first .id) (setUpBoard first .mode) (setUpBoard first) (setUpBoard second) calls
+    → Claim (setUpBoard first .id) (unitOf (setUpBoard first)) (setUpBoard first .mode) (setUpBoard first) (setUpBoard second) calls

@@ -6,11 +6,12 @@ use mathlib.Core.Option.{Option, none, some}
 use mathlib.Core.Path.{_≡_}
 use lib.Dec.{leb, eqb}
 use lib.ListN.{length, take, replicate}
-use Rattle.octets.specs.Octets.{same}
+use Rattle.octets.specs.Octets.{between, same}
 use Rattle.framing.specs.Identity.{defaultId, allAlphanumeric, isPassword}
 use Rattle.framing.specs.Refusal.{Refusal, refusal, firstRefusal}
 use Rattle.store.specs.declared.Store.{Store}
-use Rattle.store.specs.Layout.{storeSize, valueOf}
+use Rattle.rows.specs.Layout.{storeSize, isMicra}
+use Rattle.store.specs.Layout.{valueOf}
 use Rattle.store.specs.Sound as rows
 use Rattle.store.specs.Start.{start}
 use Rattle.schedule.specs.declared.Schedule.{Schedule}
@@ -40,9 +41,16 @@ isMode mode = eqb mode client || eqb mode accessPoint
 abbrev pub isId : List ℕ → Bool
 isId id = eqb (length id) 16 && not (same id defaultId)
 
--- the unit type that row 00B9 holds
-abbrev pub micra : List ℕ
-micra = 2 ∷ 0 ∷ []
+-- the unit type: 2 is the Micra; 3, 4 and 5 are the VENTO Expert
+abbrev pub isUnit : ℕ → Bool
+isUnit unit = between 2 5 unit
+
+-- as row 00B9 holds it
+abbrev pub unitType : ℕ → List ℕ
+unitType unit = unit ∷ 0 ∷ []
+
+abbrev pub unitOf : Board → ℕ
+unitOf board = board .parameters .store .unit
 
 abbrev pub passwordOf : Board → List ℕ
 passwordOf board = take (board .size) (board .password)
@@ -60,15 +68,17 @@ pub record SetUp : Type 0 where
   pub id : List ℕ
   pub password : List ℕ
   pub mode : ℕ
+  pub unit : ℕ
 
-abbrev pub setUp : List ℕ → List ℕ → ℕ → SetUp
-setUp id password mode = record { id = id; password = password; mode = mode }
+abbrev pub setUp : List ℕ → List ℕ → ℕ → ℕ → SetUp
+setUp id password mode unit = record { id = id; password = password; mode = mode; unit = unit }
 
 unfoldable pub setUpRefusals : List (Refusal SetUp)
 setUpRefusals =
     refusal 20 (λ (given : SetUp). not (isId (given .id)))
     ∷ refusal 21 (λ (given : SetUp). not (isPassword (given .password)))
     ∷ refusal 22 (λ (given : SetUp). not (isMode (given .mode)))
+    ∷ refusal 23 (λ (given : SetUp). not (isUnit (given .unit)))
     ∷ []
 
 unfoldable pub setUpRefusal : SetUp → Option ℕ
@@ -82,12 +92,12 @@ startBoard given =
       password = given .password ++ replicate (8 - length (given .password)) 0;
       size = length (given .password);
       mode = given .mode;
-      parameters = parametersOf (start (given .id)) entries.start;
+      parameters = parametersOf (start (given .id) (given .unit)) entries.start;
     }
 
 -- what a refused set-up returns the start record of
 abbrev pub unset : SetUp
-unset = setUp (replicate 16 0) [] client
+unset = setUp (replicate 16 0) [] client 2
 
 abbrev pub boardOf : Option ℕ → SetUp → Board
 boardOf none given = startBoard given
@@ -105,10 +115,14 @@ pub record SetsUp (given : SetUp) (result : Answered) : Type 0 where
 abbrev pub isSized : Parameters → Bool
 isSized parameters = eqb (length (parameters .store .bytes)) storeSize && eqb (length (parameters .schedule .entries)) entries.entryCount
 
--- refusal 70 where a record is not sound: set-up would refuse its ID, password or mode, an entry of the schedule has a field outside its
--- range, a row is outside its set, or 007C or 00B9 differ from the identity
+-- only a Micra has the schedule: the entries of any other unit are not looked at
+abbrev pub entriesSound : Parameters → Bool
+entriesSound parameters = not (isMicra (parameters .store .unit)) || entries.sound (parameters .schedule)
+
+-- refusal 70 where a record is not sound: set-up would refuse its ID, password, mode or unit type, an entry of the schedule has a field
+-- outside its range, a row is outside its set, or 007C or 00B9 differ from the identity
 unfoldable pub sound : Board → Bool
 sound board =
     isId (board .id) && leb (board .size) 8 && allAlphanumeric (passwordOf board) && isMode (board .mode)
-    && isSized (board .parameters) && entries.sound (board .parameters .schedule) && rows.sound (board .parameters .store)
-    && same (valueOf (board .parameters .store) 0x007C) (board .id) && same (valueOf (board .parameters .store) 0x00B9) micra
+    && isSized (board .parameters) && isUnit (unitOf board) && entriesSound (board .parameters) && rows.sound (board .parameters .store)
+    && same (valueOf (board .parameters .store) 0x007C) (board .id) && same (valueOf (board .parameters .store) 0x00B9) (unitType (unitOf board))

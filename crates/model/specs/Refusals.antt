@@ -1,5 +1,5 @@
 -- Demand 1: each call gets one stated answer, and a refusal changes nothing.
-use Prim.Native.Nat.{ℕ, _≤_}
+use Prim.Native.Nat.{ℕ, _≤_, _<_}
 use mathlib.Core.Bool.{true, false, _&&_, _||_}
 use mathlib.Core.List.{List, [], _∷_}
 use mathlib.Core.Logic.{_↔_, _⊎_}
@@ -8,12 +8,12 @@ use lib.Dec.{eqb}
 use lib.ListN.{length, take, drop}
 use Rattle.octets.specs.Octets.{same}
 use Rattle.framing.specs.Frame.{packetOf, packetLength}
-use Rattle.framing.specs.Identity.{defaultId}
+use Rattle.framing.specs.Identity.{defaultId, isPassword}
 use Rattle.framing.specs.Refusal.{Refusal}
 use Rattle.block.specs.Reading.{isSome}
 use Rattle.model.specs.Authentication.{bears}
 use Rattle.model.specs.Measurement.{MeasureCall, measureRefusals, measureRefusal, measuredBoard}
-use Rattle.model.specs.Record.{verdictOf, accessPoint, passwordOf, SetUp, setUpRefusals, setUpRefusal, setUpBoard, startBoard, unset, sound}
+use Rattle.model.specs.Record.{verdictOf, accessPoint, isId, passwordOf, unitOf, SetUp, setUpRefusals, setUpRefusal, setUpBoard, startBoard, unset, sound}
 use Rattle.model.specs.Step.{Call, request, decoded, reportsOf, response, stepRefusals, step}
 use Rattle.model.specs.declared.Answer.the-variants as answer
 use Rattle.model.specs.declared.Verdict.the-variants as verdict
@@ -79,7 +79,7 @@ pub record AnswersMeasurement (c : MeasureCall) : Type 0 where
 abbrev pub MeasurementsAnswered : Type 0
 MeasurementsAnswered = (c : MeasureCall) → AnswersMeasurement c
 
--- an accepted set-up gives the start record of what it was given, a refused one that of a zero ID, no password and mode client
+-- an accepted set-up gives the start record of what it was given, a refused one that of a zero ID, no password, mode client and Micra
 pub record AnswersSetUp (given : SetUp) : Type 0 where
   pub refused : (number : ℕ) → (verdictOf (setUpRefusal given) ≡ verdict.Refused number) ↔ Earliest setUpRefusals given number
   pub replaced : (number : ℕ) → verdictOf (setUpRefusal given) ≡ verdict.Refused number → setUpBoard given ≡ startBoard unset
@@ -88,3 +88,16 @@ pub record AnswersSetUp (given : SetUp) : Type 0 where
 
 abbrev pub SetUpsAnswered : Type 0
 SetUpsAnswered = (given : SetUp) → AnswersSetUp given
+
+-- of a set-up with a right ID and password: 22 where the mode is neither 1 nor 2, whatever the unit type is; then 23 where the unit type is
+-- none of 2 to 5; else the board has the unit type that was given. After any refusal it is 2
+pub record JudgesUnit (given : SetUp) : Type 0 where
+  pub mode-first : (given .mode ≡ 1 → ⊥) → (given .mode ≡ 2 → ⊥) → verdictOf (setUpRefusal given) ≡ verdict.Refused 22
+  pub unit-wrong : (given .mode ≡ 1) ⊎ (given .mode ≡ 2) → (given .unit < 2) ⊎ (5 < given .unit) → verdictOf (setUpRefusal given) ≡ verdict.Refused 23
+  pub accepted :
+      (given .mode ≡ 1) ⊎ (given .mode ≡ 2) → 2 ≤ given .unit → given .unit ≤ 5
+      → (verdictOf (setUpRefusal given) ≡ verdict.Accepted) × (unitOf (setUpBoard given) ≡ given .unit)
+  pub refused : (number : ℕ) → verdictOf (setUpRefusal given) ≡ verdict.Refused number → unitOf (setUpBoard given) ≡ 2
+
+abbrev pub UnitsJudged : Type 0
+UnitsJudged = (given : SetUp) → isId (given .id) ≡ true → isPassword (given .password) ≡ true → JudgesUnit given

@@ -16,7 +16,7 @@ use Rattle.block.specs.Encoding.{encodeReports}
 use Rattle.block.specs.Request.{noFunction, noCommands}
 use Rattle.model.specs.Conditions.{discoversIn, commandsIn, otherThanReads}
 use Rattle.model.specs.Commands.{run, runReports, discoverReports}
-use Rattle.model.specs.Record.{sound, passwordOf, withParameters}
+use Rattle.model.specs.Record.{sound, passwordOf, unitOf, withParameters}
 use Rattle.model.specs.declared.Answer.{Answer}
 use Rattle.model.specs.declared.Answer.the-variants.{Refused, Silence, Response}
 use Rattle.model.specs.declared.Board.{Board}
@@ -53,7 +53,7 @@ commandsOf r = Option·getD (decoded r) []
 
 abbrev pub reportsOf : Request → List Report
 reportsOf r =
-    cond (isDiscovery r) (discoverReports (r .board .id) (commandsOf r)) (runReports (r .board .parameters) (commandsOf r))
+    cond (isDiscovery r) (discoverReports (r .board .id) (unitOf (r .board)) (commandsOf r)) (runReports (r .board .parameters) (commandsOf r))
 
 -- the board's own ID, the request's password, FUNC 06
 abbrev pub response : Request → Frame

@@ -8,7 +8,7 @@ use Rattle.model.specs.Authentication.{discovers}
 use Rattle.model.specs.Discovery.{replyOf, discoveryReply}
 use Rattle.model.specs.Measurement.{measureCall, MeasuresBoard}
 use Rattle.model.specs.Noninterference.{OwnCall, ofPacket, ofMeasurement, ListedCall, toBoth, toFirst, toSecond, Returned, replied, judged, Unauthenticated, without}
-use Rattle.model.specs.Record.{passwordOf, SetUp, SetsUp}
+use Rattle.model.specs.Record.{passwordOf, unitOf, SetUp, SetsUp}
 use Rattle.model.specs.Step.{call, Steps}
 use Rattle.model.specs.declared.Answered.{Answered}
 use Rattle.model.specs.declared.Board.{Board}
@@ -65,25 +65,25 @@ AlikeMade {first} {second} (madeBoth packet buffer left right one two contract c
 AlikeMade (madeFirst own later) = AlikeMade later
 AlikeMade (madeSecond own later) = AlikeMade later
 
-pub record DiscoverableMade (id : List ℕ) (mode : ℕ) (board : Board) : Type 0 where
+pub record DiscoverableMade (id : List ℕ) (unit mode : ℕ) (board : Board) : Type 0 where
   pub unchanged :
       (packet buffer after : List ℕ) (result : Stepped) → Steps (call board packet buffer) result after → discovers mode packet ≡ true
       → result .board ≡ board
   pub answered :
       (packet buffer after : List ℕ) (result : Stepped) → Steps (call board packet buffer) result after → discovers mode packet ≡ true
-      → 256 ≤ length buffer → replyOf (result .answer) after ≡ discoveryReply packet id buffer
+      → 256 ≤ length buffer → replyOf (result .answer) after ≡ discoveryReply packet id unit buffer
 
-pub record TraceClaim (id : List ℕ) (mode : ℕ) {first second : Board} (trace : Trace first second) : Type 0 where
+pub record TraceClaim (id : List ℕ) (unit mode : ℕ) {first second : Board} (trace : Trace first second) : Type 0 where
   pub alike : AlikeMade trace
   -- another run, of the same calls without the packets for both
   pub same-ends : (other : Trace first second) → callsOf other ≡ without (callsOf trace) → endsOf trace ≡ endsOf other
   pub same-returns : (other : Trace first second) → callsOf other ≡ without (callsOf trace) → returnsOf trace ≡ returnsOf other
-  pub first-discoverable : DiscoverableMade id mode (endsOf trace .0)
-  pub second-discoverable : DiscoverableMade id mode (endsOf trace .1)
+  pub first-discoverable : DiscoverableMade id unit mode (endsOf trace .0)
+  pub second-discoverable : DiscoverableMade id unit mode (endsOf trace .1)
 
 abbrev pub TraceNoninterference : Type 0
 TraceNoninterference =
     (first second : SetUp) (one two : Answered) → SetsUp first one → SetsUp second two
-    → one .board .id ≡ two .board .id → one .board .mode ≡ two .board .mode
+    → one .board .id ≡ two .board .id → unitOf (one .board) ≡ unitOf (two .board) → one .board .mode ≡ two .board .mode
     → (trace : Trace (one .board) (two .board)) → Unauthenticated (passwordOf (one .board)) (passwordOf (two .board)) (callsOf trace)
-    → TraceClaim (one .board .id) (one .board .mode) trace
+    → TraceClaim (one .board .id) (unitOf (one .board)) (one .board .mode) trace

@@ -30,24 +30,36 @@ fn answered_at(answered: Answered, text: &mut [u8], at: usize) -> Step {
     }
 }
 
-// setup ID PASSWORD MODE
+// The unit type in what is left of the line of a set-up: 2 where the field is left out.
+fn read_unit(left: &[u8]) -> Byte {
+    if left.len() == 0 {
+        return Byte::Value(rows::MICRA);
+    }
+    if !fields::is_last(left) {
+        return Byte::Bad;
+    }
+    fields::read_byte(fields::first(left, b' '))
+}
+
+// setup ID PASSWORD MODE [TYPE]
 pub(crate) fn set_up(step: Step, left: &[u8], text: &mut [u8]) -> Step {
     let mut bytes = hex::room();
     let Two::Until { first, second } = fields::decode_two(left, &mut bytes) else {
         return calls::bad(step, text);
     };
-    let last = fields::after_two(left);
-    let Byte::Value(mode) = fields::read_byte(fields::first(last, b' ')) else {
+    let rest = fields::after_two(left);
+    let Byte::Value(mode) = fields::read_byte(fields::first(rest, b' ')) else {
         return calls::bad(step, text);
     };
-    if !fields::is_last(last) {
+    let Byte::Value(unit) = read_unit(fields::after(rest, b' ')) else {
         return calls::bad(step, text);
-    }
+    };
     let both = &bytes[..];
     let answered = board::set_up(
         octets::first_bytes(both, first),
         slices::part(both, first, second),
         mode,
+        unit,
     );
     answered_at(answered, text, step.at)
 }

@@ -127,7 +127,7 @@ fn turn(state: State, input: &mut [u8], text: &mut [u8]) -> State {
 
 // A refused set-up gives the board before the first call. Nothing says that the input ends, so the turns are counted.
 pub(crate) fn replay(input: &mut [u8], text: &mut [u8]) {
-    let answered = board::set_up(b"", b"", 0);
+    let answered = board::set_up(b"", b"", 0, rows::MICRA);
     let board = answered.board;
     let mut state = State {
         board,

@@ -19,33 +19,48 @@ use store::Store;
 // Above the number of every row.
 const NUMBERS: u16 = 0x0500;
 
-// What `record` shows after the identity: the numbers, and then the 28 entries of the schedule.
+// What `record` shows after the identity: the numbers, and then the 28 entries of the schedule, which a Micra alone has.
 const ITEMS: u16 = 0x051C;
 
-fn put_row(text: &mut [u8], at: usize, number: u16, bytes: &[u8]) -> usize {
-    let Found::At(_) = store::find(number) else {
+fn put_row(text: &mut [u8], at: usize, number: u16, bytes: &[u8], unit: u8) -> usize {
+    let Found::At(_) = store::find(unit, number) else {
         return at;
     };
     let page = (number / 256) as u8;
     let low = (number % 256) as u8;
-    output::put_held(text, at, page, low, store::held(bytes, number))
+    output::put_held(text, at, page, low, store::held(bytes, unit, number))
 }
 
-fn put_item(text: &mut [u8], at: usize, item: u16, bytes: &[u8], schedule: Schedule) -> usize {
+fn put_item(
+    text: &mut [u8],
+    at: usize,
+    item: u16,
+    bytes: &[u8],
+    unit: u8,
+    schedule: Schedule,
+) -> usize {
     if item < NUMBERS {
-        return put_row(text, at, item, bytes);
+        return put_row(text, at, item, bytes, unit);
+    }
+    if unit != rows::MICRA {
+        return at;
     }
     schedule_entries::put(text, at, schedule, item - NUMBERS)
 }
 
-fn put_items(text: &mut [u8], at: usize, bytes: &[u8], schedule: Schedule) -> usize {
+fn put_items(text: &mut [u8], at: usize, bytes: &[u8], unit: u8, schedule: Schedule) -> usize {
     let mut end = at;
     let mut item: u16 = 0;
     while item < ITEMS {
-        end = put_item(text, end, item, bytes, schedule);
+        end = put_item(text, end, item, bytes, unit, schedule);
         item += 1;
     }
     end
+}
+
+fn put_mode(text: &mut [u8], at: usize, mode: u8, unit: u8) -> usize {
+    let end = output::put_decimal(text, at, b" mode=", mode as u64);
+    output::put_decimal(text, end, b" type=", unit as u64)
 }
 
 fn put_identity(text: &mut [u8], at: usize, board: Board) -> usize {
@@ -60,7 +75,12 @@ fn put_identity(text: &mut [u8], at: usize, board: Board) -> usize {
         before_password,
         octets::first_bytes(&password, size),
     );
-    output::put_decimal(text, after_password, b" mode=", board.mode as u64)
+    put_mode(
+        text,
+        after_password,
+        board.mode,
+        board.parameters.store.unit,
+    )
 }
 
 // record
@@ -72,7 +92,7 @@ pub(crate) fn show(board: Board, left: &[u8], text: &mut [u8], at: usize) -> usi
     let parameters = board.parameters;
     let store = parameters.store;
     let bytes = store.bytes;
-    put_items(text, end, &bytes, parameters.schedule)
+    put_items(text, end, &bytes, store.unit, parameters.schedule)
 }
 
 fn with_id(board: Board, value: &[u8]) -> Board {
@@ -143,7 +163,7 @@ fn write_slot(bytes: &mut [u8], place: usize, size: usize, value: &[u8], text: b
 // (A text's length is read there too; both texts lie far enough from the start for their whole slots.)
 fn with_row(board: Board, number: u16, value: &[u8]) -> Board {
     let own = places();
-    let held = store::held(&own, number);
+    let held = store::held(&own, board.parameters.store.unit, number);
     if held.len() == 0 {
         return board;
     }
@@ -156,7 +176,25 @@ fn with_row(board: Board, number: u16, value: &[u8]) -> Board {
     with_parameters(
         board,
         Parameters {
-            store: Store { bytes },
+            store: Store {
+                unit: store.unit,
+                bytes,
+            },
+            schedule,
+        },
+    )
+}
+
+// A board with another unit type; its bytes stay as they are.
+fn with_unit(board: Board, unit: u8) -> Board {
+    let parameters = board.parameters;
+    let store = parameters.store;
+    let bytes = store.bytes;
+    let schedule = parameters.schedule;
+    with_parameters(
+        board,
+        Parameters {
+            store: Store { unit, bytes },
             schedule,
         },
     )
@@ -165,6 +203,9 @@ fn with_row(board: Board, number: u16, value: &[u8]) -> Board {
 fn with_entry(board: Board, index: usize, value: &[u8]) -> Board {
     let parameters = board.parameters;
     let store = parameters.store;
+    if store.unit != rows::MICRA {
+        return board;
+    }
     let schedule = schedule_entries::with(parameters.schedule, index, value);
     with_parameters(board, Parameters { store, schedule })
 }
@@ -182,6 +223,14 @@ fn poke_mode(step: Step, field: &[u8], text: &mut [u8]) -> Step {
         return calls::bad(step, text);
     };
     poked(with_mode(step.board, mode), text, step.at)
+}
+
+// poke type N
+fn poke_type(step: Step, field: &[u8], text: &mut [u8]) -> Step {
+    let Byte::Value(unit) = fields::read_byte(field) else {
+        return calls::bad(step, text);
+    };
+    poked(with_unit(step.board, unit), text, step.at)
 }
 
 // poke id HEX, poke password HEX, poke 0077:D.P VALUE, poke NUMBER VALUE
@@ -210,6 +259,9 @@ pub(crate) fn poke(step: Step, left: &[u8], text: &mut [u8]) -> Step {
     let field = fields::first(last, b' ');
     if octets::equal(name, b"mode") {
         return poke_mode(step, field, text);
+    }
+    if octets::equal(name, b"type") {
+        return poke_type(step, field, text);
     }
     let mut bytes = hex::room();
     let Decoded::Until(end) = hex::decode(field, &mut bytes, 0) else {

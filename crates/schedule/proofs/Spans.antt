@@ -10,7 +10,7 @@ use borrow.Author.Tests.{eqb-true}
 use lib.Dec.{eqb}
 use lib.ListN.{length, getD}
 use Rattle.octets.proofs.Booleans.{both-true}
-use Rattle.store.proofs.Bools.{either}
+use Rattle.rows.proofs.Bools.{either}
 use Rattle.schedule.specs.declared.Entry.{Entry}
 use Rattle.schedule.specs.declared.Span.{Span}
 use Rattle.schedule.specs.declared.Span.the-variants.{Until, Nothing}

@@ -5,7 +5,7 @@ use mathlib.Core.List.{List, [], _∷_}
 use lib.Dec.{eqb, leb}
 use lib.ListN.{getD, set, replicate}
 use Rattle.octets.specs.Octets.{between}
-use Rattle.store.specs.declared.WholeDegrees.{WholeDegrees}
+use Rattle.rows.specs.declared.WholeDegrees.{WholeDegrees}
 use Rattle.schedule.specs.Days.{hasEntry}
 use Rattle.schedule.specs.declared.Entry.{Entry}
 use Rattle.schedule.specs.declared.Schedule.{Schedule}

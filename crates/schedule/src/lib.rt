@@ -1,5 +1,5 @@
 // The weekly schedule, parameter 0x0077: an entry for each day and period, and what reading and writing make of them.
-use store::WholeDegrees;
+use rows::WholeDegrees;
 ghost use Prim.Native.Nat.{_-_, _<_};
 ghost use mathlib.Core.Bool.{true};
 ghost use mathlib.Core.Path.{_≡_};

@@ -8,18 +8,18 @@ use mathlib.Core.Path.{_≡_, refl, sym, ap, _∙_}
 use borrow.Author.Tests.{eqb-true, lt-ltb, le-ltb}
 use lib.Dec.{eqb}
 use lib.ListN.{length, getD, replicate}
-use Rattle.store.specs.declared.Quantity.{Quantity}
-use Rattle.store.specs.declared.Quantity.the-variants as quantity
+use Rattle.rows.specs.declared.Quantity.the-variants as quantity
 use Rattle.store.specs.declared.Store.{Store}
 use Rattle.store.specs.declared.temperatures.Reading.the-variants.{Temperature}
 use Rattle.store.specs.declared.tenths.Tenths.{Tenths}
-use Rattle.store.specs.Rows.{Set, Row, rows, rowAt}
-use Rattle.store.specs.Sets.{lowFirstNumber, bytesOf}
-use Rattle.store.specs.Layout.{sizeOf, isText, filled, setAt, placeAt, toSlot, overwritten, withValueAt}
+use Rattle.rows.specs.Rows.{Set, rowAt}
+use Rattle.rows.specs.Sets.{lowFirstNumber, bytesOf}
+use Rattle.rows.specs.Layout.{sizeOf, isText, setAt, placeAt}
+use Rattle.store.specs.Layout.{filled, toSlot, overwritten, withValueAt}
 use Rattle.store.specs.Temperatures.{sensorMissing, shortCircuit, isMark, tenthsOf, bitsOf, readingOf}
 use Rattle.octets.proofs.Booleans.{both-true}
-use Rattle.store.proofs.Bools.{tested}
-use Rattle.store.proofs.Tables.{each-row, in-or-past}
+use Rattle.rows.proofs.Quantities.{tenths-slot, degrees-slot}
+use Rattle.rows.proofs.Tables.{in-or-past}
 
 -- a slot of one byte, and of two
 filled-one : (v : List ℕ) → filled 1 v ≡ getD v 0 0 ∷ []
@@ -35,39 +35,9 @@ filled-two (x ∷ y ∷ rest) =
     let none : 2 - suc (suc (length rest)) ≡ 0 = omega arith in
     ap (λ (n : ℕ). x ∷ y ∷ replicate n 0) none
 
--- the slots of each quantity's rows, by one test of the whole table
-holds : ℕ → Set → Bool
-holds size set = eqb (sizeOf set) size && not (isText set)
-
-fits : Quantity → Set → Bool
-fits quantity.Plain set = true
-fits quantity.Tenths set = holds 2 set
-fits quantity.WholeDegrees set = holds 1 set
-
-fits-row : Row → Bool
-fits-row r = fits (r .quantity) (r .set)
-
-same-slot : (size : ℕ) (set : Set) (v : List ℕ) → holds size set ≡ true → toSlot set v ≡ filled size v
-unfolding holds
-same-slot size set v e = by (isText set) refl (both-true (eqb (sizeOf set) size) (not (isText set)) e)
-  where
-    by : (b : Bool) → isText set ≡ b → (eqb (sizeOf set) size ≡ true) × (not b ≡ true) → toSlot set v ≡ filled size v
-    by true t h = absurd (false≢true (h .1))
-    by false t h = rw (t, eqb-true (sizeOf set) size (h .0))
-
-row-fits : (k : ℕ) (q : Quantity) → rowAt k .quantity ≡ q → fits q (setAt k) ≡ true
-unfolding rows fits-row fits holds
-row-fits k q e = ap (λ (p : Quantity). fits p (setAt k)) (sym e) ∙ tested (fits-row (rowAt k)) (each-row fits-row tt tt k)
-
--- the one byte of whole degrees is its number
-pub degrees-number : (k : ℕ) (v : List ℕ) → rowAt k .quantity ≡ quantity.WholeDegrees → length v ≡ sizeOf (setAt k) → getD v 0 0 ≡ lowFirstNumber v
-unfolding fits holds
-degrees-number k v e h = by v (h ∙ eqb-true (sizeOf (setAt k)) 1 (both-true (eqb (sizeOf (setAt k)) 1) (not (isText (setAt k))) (row-fits k quantity.WholeDegrees e) .0))
-  where
-    by : (w : List ℕ) → length w ≡ 1 → getD w 0 0 ≡ lowFirstNumber w
-    by [] p = refl
-    by (x ∷ []) p = omega arith
-    by (x ∷ y ∷ rest) p = absurd (omega arith)
+-- the slot of a row that is no text
+same-slot : (size : ℕ) (set : Set) (v : List ℕ) → (sizeOf set ≡ size) × (isText set ≡ false) → toSlot set v ≡ filled size v
+same-slot size set v (sized, plain) = rw (plain, sized)
 
 -- bits as tenths, and back
 bits-back : (bits : ℕ) → bits < 0x10000 → bitsOf (tenthsOf bits .tenths) ≡ bits
@@ -94,9 +64,8 @@ unmarked v t b e = told v t b e .no-mark
 
 pub tenths-stored : (s : Store) (k : ℕ) (v : List ℕ) (t : Tenths) → ((i : ℕ) → getD v i 0 < 256) → rowAt k .quantity ≡ quantity.Tenths
     → readingOf (lowFirstNumber v) ≡ Temperature t → withValueAt s k (bytesOf 2 (bitsOf (t .tenths))) ≡ withValueAt s k v
-unfolding fits
 tenths-stored s k v t b e read =
-    let fit = row-fits k quantity.Tenths e in
+    let fit = tenths-slot k e in
     let low : lowFirstNumber v % 256 ≡ getD v 0 0 = omega (arith, b 0, b 1) in
     let top : lowFirstNumber v / 256 ≡ getD v 1 0 = omega (arith, b 0, b 1) in
     let high : getD v 1 0 % 256 ≡ getD v 1 0 = omega (arith, b 1) in
@@ -106,9 +75,8 @@ tenths-stored s k v t b e read =
     ∙ sym (same-slot 2 (setAt k) v fit))
 
 pub degrees-stored : (s : Store) (k : ℕ) (v : List ℕ) → rowAt k .quantity ≡ quantity.WholeDegrees → withValueAt s k (getD v 0 0 ∷ []) ≡ withValueAt s k v
-unfolding fits
 degrees-stored s k v e =
-    let fit = row-fits k quantity.WholeDegrees e in
+    let fit = degrees-slot k e in
     ap (overwritten s (placeAt k))
     (same-slot 1 (setAt k) (getD v 0 0 ∷ []) fit
     ∙ sym (filled-one v)

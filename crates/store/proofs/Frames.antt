@@ -10,9 +10,11 @@ use lib.ListN.{length, getD, take, drop, length-append, length-drop, take-append
 use lib.Seq.{take-append-le, take-at, drop-append-le, drop-at, drop-drop, length-take-le}
 use Rattle.octets.specs.Octets.{overwrite}
 use Rattle.store.specs.declared.Store.{Store}
-use Rattle.store.specs.Rows.{Set, Row, rows, noRow, rowAt, indexOf}
-use Rattle.store.specs.Layout.{rowCount, storeSize, sizeOf, isText, widthOf, placesFrom, setAt, placeAt, filled, toSlot, slotAt, slotOf, withValueAt, withValue}
-use Rattle.store.proofs.Tables.{rows-length, in-or-past, found-number}
+use Rattle.rows.specs.Rows.{Set, rowAt, indexOf}
+use Rattle.rows.specs.Layout.{rowCount, storeSize, sizeOf, isText, widthOf, ofMicra, setAt, placeAt}
+use Rattle.store.specs.Layout.{filled, toSlot, slotAt, slotOf, withValueAt, withValue}
+use Rattle.rows.proofs.Found.{found-row, one-product, place-order}
+use Rattle.rows.proofs.Tables.{in-or-past}
 use Rattle.octets.proofs.Overwriting.{length-overwrite}
 use Rattle.store.proofs.Slots.{past, place-within, length-filled}
 
@@ -55,23 +57,6 @@ rest-after l at v b h k =
     ∙ drop-drop (b - (at + length v)) (at + length v) l
     ∙ ap (λ (i : ℕ). drop i l) e
 
--- slots stand one after the other
-places-from : (from : ℕ) (l : List Row) (k : ℕ) → k < length l → from ≤ getD (placesFrom from l) k 0
-unfolding placesFrom
-places-from from [] k h = absurd (not-suc-le-zero h)
-places-from from (r ∷ rs) zero h = omega arith
-places-from from (r ∷ rs) (suc k) h = omega (arith, places-from (from + widthOf (r .set)) rs k (le-of-suc-le-suc h))
-
-places-order : (from : ℕ) (l : List Row) (j k : ℕ) → j < k → k < length l → getD (placesFrom from l) j 0 + widthOf (getD l j noRow .set) ≤ getD (placesFrom from l) k 0
-unfolding placesFrom
-places-order from [] j k q h = absurd (not-suc-le-zero h)
-places-order from (r ∷ rs) j zero q h = absurd (not-suc-le-zero q)
-places-order from (r ∷ rs) zero (suc k) q h = places-from (from + widthOf (r .set)) rs k (le-of-suc-le-suc h)
-places-order from (r ∷ rs) (suc j) (suc k) q h = places-order (from + widthOf (r .set)) rs j k (le-of-suc-le-suc q) (le-of-suc-le-suc h)
-
-place-order : (j k : ℕ) → j < k → k < rowCount → placeAt j + widthOf (setAt j) ≤ placeAt k
-place-order j k q h = places-order 0 rows j k q (rw rows-length h)
-
 module _ (s : Store) (sized : length (s .bytes) ≡ storeSize) where
   ends : (k : ℕ) (v : List ℕ) → placeAt k + length (toSlot (setAt k) v) ≤ length (s .bytes)
   ends k v = omega (arith, slot-width (setAt k) v, place-within k)
@@ -88,11 +73,11 @@ module _ (s : Store) (sized : length (s .bytes) ≡ storeSize) where
       (rest-after (s .bytes) (placeAt k) (toSlot (setAt k) v) (placeAt j) (ends k v) (omega (arith, slot-width (setAt k) v)))
 
   -- two different rows of the table
-  apart-slot : (j k : ℕ) (v : List ℕ) → j < rowCount → k < rowCount → (j ≡ k → ⊥) → slotAt (withValueAt s k v .bytes) j ≡ slotAt (s .bytes) j
-  apart-slot j k v hj hk ne =
+  apart-slot : (j k : ℕ) (v : List ℕ) → j < rowCount → k < rowCount → ofMicra (rowAt j) ≡ ofMicra (rowAt k) → (j ≡ k → ⊥) → slotAt (withValueAt s k v .bytes) j ≡ slotAt (s .bytes) j
+  apart-slot j k v hj hk same ne =
       ⊎-elim
-      (λ h. part-before (s .bytes) (placeAt k) (toSlot (setAt k) v) (placeAt j) (widthOf (setAt j)) (omega (arith, place-within k)) (place-order j k h hk))
-      (λ h. after j k v (place-order k j (strict h) hj))
+      (λ h. part-before (s .bytes) (placeAt k) (toSlot (setAt k) v) (placeAt j) (widthOf (setAt j)) (omega (arith, place-within k)) (place-order j k h hk same))
+      (λ h. after j k v (place-order k j (strict h) hj (sym same)))
       (in-or-past j k)
     where
       strict : k ≤ j → k < j
@@ -109,10 +94,12 @@ module _ (s : Store) (sized : length (s .bytes) ≡ storeSize) where
 
   pub other-slot : (n m : ℕ) (v : List ℕ) → (n ≡ m → ⊥) → slotOf (withValue s n v) m ≡ slotOf s m
   other-slot n m v ne =
+      let unit = s .unit in
       ⊎-elim
       (λ hm. ⊎-elim
-      (λ hn. apart-slot (indexOf m) (indexOf n) v hm hn (λ e. ne (sym (found-number n hn) ∙ ap (λ (k : ℕ). rowAt k .number) (sym e) ∙ found-number m hm)))
-      (λ hn. past-put (indexOf n) (indexOf m) v hn)
-      (in-or-past (indexOf n) rowCount))
-      (λ hm. past-slot (indexOf n) (indexOf m) v hm)
-      (in-or-past (indexOf m) rowCount)
+      (λ hn. apart-slot (indexOf unit m) (indexOf unit n) v hm hn (one-product unit m n hm hn)
+      (λ e. ne (sym (found-row unit n hn .0) ∙ ap (λ (k : ℕ). rowAt k .number) (sym e) ∙ found-row unit m hm .0)))
+      (λ hn. past-put (indexOf unit n) (indexOf unit m) v hn)
+      (in-or-past (indexOf unit n) rowCount))
+      (λ hm. past-slot (indexOf unit n) (indexOf unit m) v hm)
+      (in-or-past (indexOf unit m) rowCount)

@@ -6,28 +6,28 @@ use mathlib.Core.List.{List, [], _∷_}
 use mathlib.Core.Logic.{_⊎_, inl, inr, ⊎-elim}
 use mathlib.Core.Option.{Option, none, some, Option·map}
 use mathlib.Core.Path.{_≡_, refl, sym, ap, _∙_, subst}
-use borrow.Author.Tests.{eq-eqb, eqb-false, leb-true, lt-leb, not-true}
+use borrow.Author.Tests.{eqb-false, leb-true, lt-leb, not-true}
 use lib.Dec.{eqb, leb}
 use lib.ListN.{length}
-use Rattle.calendar.specs.Dates.{daysOfMonths, daysOfYears}
 use Rattle.store.specs.declared.Measurement.the-variants.{Accepted, NotMeasured, WrongLength}
-use Rattle.store.specs.declared.Range.{Range}
+use Rattle.rows.specs.declared.Range.{Range}
 use Rattle.store.specs.declared.Store.{Store}
-use Rattle.store.specs.Rows.{Set, Number, Row, rows, rowOf, indexOf, indexIn, allows, known, isIdentity}
-use Rattle.store.specs.Sets.{lowFirstNumber, bytesOf, printable, inRange, member, leastAbove, greatestBelow}
-use Rattle.store.specs.Layout.{sizeOf, placesFrom, slotOf, fromSlot, valueOf, withValue}
+use Rattle.rows.specs.Rows.{Set, Number, Row, rows, rowOf, indexOf, allows, known, isIdentity}
+use Rattle.rows.specs.Sets.{lowFirstNumber, bytesOf, inRange, leastAbove, greatestBelow}
+use Rattle.rows.specs.Layout.{sizeOf}
+use Rattle.store.specs.Layout.{slotOf, fromSlot, valueOf, withValue}
 use Rattle.store.specs.Operations.{accepted, neighbour, stored}
-use Rattle.store.specs.Start.{lowest, startValue, startSlots, start}
-use Rattle.store.specs.Sound.{sound, soundRows}
+use Rattle.store.specs.Sound.{sound}
+use Rattle.store.specs.Start.{start}
 use Rattle.store.specs.Laws.{Operation, Write, Raise, Lower, Measure, newValue, after, heldNumber, Sized, Least, Greatest}
-use Rattle.store.specs.Laws.{SizeKept, OthersKept, IdentityKept, ReadBack, SoundKept, HeldLegal, HeldLength, StartSized, StartSound, StartIdentity, RaiseLeast, LowerGreatest}
-use Rattle.store.proofs.Bools.{either, not-both, no-value, tested}
-use Rattle.store.proofs.Tables.{each-number}
+use Rattle.store.specs.Laws.{SizeKept, UnitKept, OthersKept, IdentityKept, ReadBack, SoundKept, HeldLegal, HeldLength, StartSized, StartHeld, StartIdentity, StartSound, RaiseLeast, LowerGreatest}
+use Rattle.rows.proofs.Bools.{either, not-both, no-value, tested}
+use Rattle.rows.proofs.Found.{each-number}
 use Rattle.store.proofs.Frames.{size-with, other-slot}
 use Rattle.store.proofs.NewValues.{numbered, numbered-row, Bytes, next-bytes, new-member}
 use Rattle.store.proofs.Searches.{least-above, none-above, greatest-below, none-below}
 use Rattle.store.proofs.Soundness as soundness
-use Rattle.store.proofs.Starts.{blank, start-with}
+use Rattle.store.proofs.Starts as starts
 
 -- what holds of a store, and of it with the new value, holds after an operation
 kept : (P : Store → Type 0) (s : Store) (n : ℕ) (o : Option (List ℕ)) → P s → ((v : List ℕ) → o ≡ some v → P (withValue s n v)) → P (stored s n o)
@@ -35,7 +35,10 @@ kept P s n none p q = p
 kept P s n (some v) p q = q v refl
 
 pub size-kept : SizeKept
-size-kept o s n sized = kept Sized s n (newValue o s n) sized (λ v e. size-with s sized (indexOf n) v)
+size-kept o s n sized = kept Sized s n (newValue o s n) sized (λ v e. size-with s sized (indexOf (s .unit) n) v)
+
+pub unit-kept : UnitKept
+unit-kept o s n = kept (λ (t : Store). t .unit ≡ s .unit) s n (newValue o s n) refl (λ v h. refl)
 
 pub others-kept : OthersKept
 others-kept o s n m sized e =
@@ -59,26 +62,29 @@ held-length s n e k = soundness.held-length s n e k
 unwritten-identity : ℕ → Row → Bool
 unwritten-identity n r = leb (r .functions) 1 || not (isIdentity n)
 
-identity-read-only : (n : ℕ) → isIdentity n ≡ true → rowOf n .functions ≤ 1
+identity-read-only : (unit n : ℕ) → isIdentity n ≡ true → rowOf unit n .functions ≤ 1
 unfolding rows unwritten-identity
-identity-read-only n e =
+identity-read-only unit n e =
     ⊎-elim
-    (λ p. leb-true (rowOf n .functions) 1 p)
+    (λ p. leb-true (rowOf unit n .functions) 1 p)
     (λ p. absurd (not-both e (not-true (isIdentity n) p)))
-    (either (leb (rowOf n .functions) 1) (not (isIdentity n)) (tested (unwritten-identity n (rowOf n)) (each-number unwritten-identity tt (λ k. tt) n)))
+    (either (leb (rowOf unit n .functions) 1) (not (isIdentity n))
+    (tested (unwritten-identity n (rowOf unit n)) (each-number unwritten-identity tt (λ k. tt) unit n)))
 
-not-allowed : {A : Type 0} (n f : ℕ) (x : Option A) (y : A) → isIdentity n ≡ true → 1 < f → cond (allows n f) x none ≡ some y → ⊥
-not-allowed n f x y e k h =
-    let no : allows n f ≡ false = lt-leb f (rowOf n .functions) (omega (arith, identity-read-only n e)) in
+not-allowed : {A : Type 0} (unit n f : ℕ) (x : Option A) (y : A) → isIdentity n ≡ true → 1 < f → cond (allows unit n f) x none ≡ some y → ⊥
+not-allowed unit n f x y e k h =
+    let no : allows unit n f ≡ false = lt-leb f (rowOf unit n .functions) (omega (arith, identity-read-only unit n e)) in
     no-value y (sym (ap (λ (b : Bool). cond b x none) no) ∙ h)
 
 not-new : (o : Operation) (s : Store) (n : ℕ) (v : List ℕ) → isIdentity n ≡ true → newValue o s n ≡ some v → ⊥
-not-new (Write w) s n v e h = not-allowed n 2 _ v e (omega arith) h
-not-new Raise s n v e h = not-allowed n 4 _ v e (omega arith) h
-not-new Lower s n v e h = not-allowed n 5 _ v e (omega arith) h
-not-new (Measure w) s n v e h = choose (known n && not (allows n 2)) h
+not-new (Write w) s n v e h = not-allowed (s .unit) n 2 _ v e (omega arith) h
+not-new Raise s n v e h = not-allowed (s .unit) n 4 _ v e (omega arith) h
+not-new Lower s n v e h = not-allowed (s .unit) n 5 _ v e (omega arith) h
+not-new (Measure w) s n v e h = choose (known (s .unit) n && not (allows (s .unit) n 2)) h
   where
-    choose : (b : Bool) → accepted (cond (b && not (isIdentity n)) (cond (eqb (length w) (sizeOf (rowOf n .set))) Accepted WrongLength) NotMeasured) w ≡ some v → ⊥
+    choose :
+        (b : Bool) → accepted (cond (b && not (isIdentity n)) (cond (eqb (length w) (sizeOf (rowOf (s .unit) n .set))) Accepted WrongLength) NotMeasured) w ≡ some v
+        → ⊥
     choose true k = no-value v (rw e at k)
     choose false k = no-value v k
 
@@ -88,45 +94,31 @@ identity-kept o s n m sized e =
     (λ v h. other-slot s sized n m v (λ q. not-new o s n v (ap isIdentity q ∙ e) h))
 
 -- the start store
-blank-sized : Sized blank
-unfolding rows lowest startValue startSlots start blank
-blank-sized = refl
-
 pub start-sized : StartSized
-start-sized id e = subst Sized (start-with id) (size-with blank blank-sized (indexOf 0x007C) id)
+start-sized id unit = starts.start-sized id unit
 
-id-member : (id : List ℕ) → length id ≡ 16 → member (rowOf 0x007C .set) id ≡ true
-unfolding rows indexIn
-id-member id e = eq-eqb (length id) 16 e
-
-pub start-sound : StartSound
-unfolding daysOfMonths daysOfYears rows indexIn placesFrom printable lowest startValue startSlots start blank soundRows
-start-sound id e = subst (λ (s : Store). sound s ≡ true) (start-with id) (soundness.sound-with blank 0x007C id blank-sized refl (id-member id e))
-
-unit-type : valueOf blank 0x00B9 ≡ 2 ∷ 0 ∷ []
-unfolding rows indexIn placesFrom lowest startValue startSlots start blank
-unit-type = refl
+pub start-held : StartHeld
+start-held id unit n size e = starts.start-held id unit n size e
 
 pub start-identity : StartIdentity
-start-identity id e =
-    subst (λ (s : Store). (valueOf s 0x007C ≡ id) × (valueOf s 0x00B9 ≡ 2 ∷ 0 ∷ [])) (start-with id) (
-      soundness.read-value blank 0x007C id blank-sized (id-member id e),
-      ap (fromSlot (rowOf 0x00B9 .set)) (other-slot blank blank-sized 0x007C 0x00B9 id (λ q. absurd (omega arith))) ∙ unit-type,
-    )
+start-identity id unit size typed = starts.start-identity id unit size typed
+
+pub start-sound : StartSound
+start-sound id unit size = starts.start-sound id unit size
 
 -- raising and lowering: the number found, or nothing changes
-module _ (o : Operation) (s : Store) (n size : ℕ) (r : Range) (sized : Sized s) (row : rowOf n .set ≡ Number size r) where
+module _ (o : Operation) (s : Store) (n size : ℕ) (r : Range) (sized : Sized s) (row : rowOf (s .unit) n .set ≡ Number size r) where
   step : (found : Option ℕ) → ((y : ℕ) → found ≡ some y → inRange r y ≡ true) → newValue o s n ≡ Option·map (bytesOf size) found
       → ((y : ℕ) × (found ≡ some y) × (heldNumber (after o s n) n ≡ y)) ⊎ ((found ≡ none) × (after o s n ≡ s))
   step none h e = inr (refl, ap (stored s n) e)
   step (some y) h e =
-      let bytes : Bytes size r (some y) (bytesOf size y) = next-bytes size r (some y) (bytesOf size y) (subst (λ (t : Set). numbered t ≡ true) row (numbered-row n)) h refl in
+      let bytes : Bytes size r (some y) (bytesOf size y) = next-bytes size r (some y) (bytesOf size y) (subst (λ (t : Set). numbered t ≡ true) row (numbered-row (s .unit) n)) h refl in
       let same : bytes .number ≡ y = cc (bytes .found) in
       inl (y, refl, ap lowFirstNumber (read-back o s n (bytesOf size y) sized e) ∙ bytes .back ∙ same)
 
   -- the new value of a row that allows the function
-  moves : (next : Range → ℕ → Option ℕ) (f : ℕ) → allows n f ≡ true
-      → cond (allows n f) (neighbour next (rowOf n .set) (valueOf s n)) none ≡ Option·map (bytesOf size) (next r (heldNumber s n))
+  moves : (next : Range → ℕ → Option ℕ) (f : ℕ) → allows (s .unit) n f ≡ true
+      → cond (allows (s .unit) n f) (neighbour next (rowOf (s .unit) n .set) (valueOf s n)) none ≡ Option·map (bytesOf size) (next r (heldNumber s n))
   moves next f e = rw (e, row)
 
 pub raise-least : RaiseLeast

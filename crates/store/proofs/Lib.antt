@@ -1,5 +1,3 @@
-pub mod Tables
-pub mod SetColumns
 pub mod Slots
 pub mod Members
 pub mod Neighbours
@@ -8,7 +6,6 @@ pub mod Degrees
 pub mod Measurements
 pub mod Starts
 pub mod Frames
-pub mod Bools
 pub mod Searches
 pub mod NewValues
 pub mod Soundness

@@ -1,31 +1,23 @@
--- Laws of membership.
-use Prim.Native.Nat.{ℕ, _+_, _≤_, _<_}
+-- Laws of switches, and of the rows of a store in turn.
+use Prim.Native.Nat.{ℕ, suc, _+_, _≤_, _<_}
 use native.Mathlib.Numerals.{add-one}
-use mathlib.Core.Bool.{true, false, _&&_}
+use mathlib.Core.Bool.{Bool, true, false, not, _&&_, _||_}
 use mathlib.Core.List.{List}
 use mathlib.Core.Path.{_≡_, refl, ap, _∙_}
 use lib.Dec.{eqb}
 use lib.ListN.{length, getD, drop, drop-of-length-le}
 use lib.Seq.{drop-cons}
-use Rattle.octets.specs.Octets.{between}
+use Rattle.rows.specs.Rows.{Set, Switch, Number, Text, Free, Clock, Calendar, Time, Row, rows, noRow, rowAt, has, rowOf}
+use Rattle.rows.specs.Sets.{member}
+use Rattle.rows.specs.Layout.{rowCount, setAt}
+use Rattle.rows.specs.Columns.{kindOf}
+use Rattle.rows.proofs.Found.{index-of-row}
+use Rattle.rows.proofs.SetColumns.{kind-switch}
+use Rattle.rows.proofs.Tables.{rows-length}
 use Rattle.store.specs.declared.Store.{Store}
-use Rattle.store.specs.Rows.{Set, Switch, Number, Text, Free, Clock, Calendar, Row, rows, noRow}
-use Rattle.store.specs.Sets.{printable, member}
-use Rattle.store.specs.Layout.{rowCount, setAt, valueAt}
-use Rattle.store.specs.Columns.{kindOf}
-use Rattle.store.specs.Operations.{inverts}
+use Rattle.store.specs.Layout.{valueAt, valueOf}
+use Rattle.store.specs.Operations.{inverts, legal}
 use Rattle.store.specs.Sound.{soundRows}
-use Rattle.store.proofs.SetColumns.{kind-switch}
-use Rattle.store.proofs.Tables.{rows-length, index-of-row}
-
--- the characters from a place on
-pub printable-step : (v : List ℕ) (i : ℕ) → i < length v → printable (drop i v) ≡ (between 0x20 0x7E (getD v i 0) && printable (drop (i + 1) v))
-unfolding printable
-printable-step v i h = rw (drop-cons v i 0 h, add-one)
-
-pub printable-end : (v : List ℕ) (i : ℕ) → length v ≤ i → printable (drop i v) ≡ true
-unfolding printable
-printable-end v i h = rw (drop-of-length-le v {i = i} h)
 
 -- only a switch is inverted
 pub no-switch : (set : Set) (v : List ℕ) → (kindOf set ≡ 0 → ⊥) → false ≡ inverts set v
@@ -35,16 +27,29 @@ no-switch (Text shortest longest) v e = refl
 no-switch (Free size) v e = refl
 no-switch Clock v e = refl
 no-switch Calendar v e = refl
+no-switch Time v e = refl
 
 pub a-switch : (set : Set) (v : List ℕ) → kindOf set ≡ 0 → (eqb (length v) 1 && eqb (getD v 0 0) 2) ≡ inverts set v
 a-switch set v e = ap (λ (s : Set). inverts s v) (kind-switch set e)
 
+-- whether the row at an index holds a value of its set, by its number and by its index
+own-row : (s : Store) (k : ℕ) → k < rowCount
+    → (not (has (s .unit) (rowAt k)) || legal s (rowAt k .number) (valueOf s (rowAt k .number)))
+    ≡ (not (has (s .unit) (rowAt k)) || member (setAt k) (valueAt (s .bytes) k))
+own-row s k h = by (has (s .unit) (rowAt k)) refl
+  where
+    by : (b : Bool) → has (s .unit) (rowAt k) ≡ b
+        → (not b || legal s (rowAt k .number) (valueOf s (rowAt k .number))) ≡ (not b || member (setAt k) (valueAt (s .bytes) k))
+    by true e = ap (λ (j : ℕ). member (setAt j) (valueAt (s .bytes) j)) (index-of-row (s .unit) k h e)
+    by false e = refl
+
 -- the rows from an index on
-pub sound-turn : (s : Store) (k : ℕ) → k < rowCount → soundRows s (drop k rows) ≡ (member (setAt k) (valueAt (s .bytes) k) && soundRows s (drop (k + 1) rows))
+pub sound-turn : (s : Store) (k : ℕ) → k < rowCount
+    → soundRows s (drop k rows) ≡ ((not (has (s .unit) (rowAt k)) || member (setAt k) (valueAt (s .bytes) k)) && soundRows s (drop (k + 1) rows))
 unfolding soundRows
 sound-turn s k h =
     ap (λ (l : List Row). soundRows s l) (drop-cons rows k noRow (rw rows-length h))
-    ∙ rw (add-one, index-of-row k h)
+    ∙ rw add-one (ap (λ (b : Bool). b && soundRows s (drop (suc k) rows)) (own-row s k h))
 
 pub sound-end : (s : Store) (k : ℕ) → rowCount ≤ k → soundRows s (drop k rows) ≡ true
 unfolding soundRows

@@ -1,30 +1,33 @@
 -- What an operation stores is a member of the row's set, and a member is read back as it was stored.
-use Prim.Native.Nat.{ℕ, _+_, _-_, _≤_, _<_}
+use Prim.Native.Nat.{ℕ, zero, suc, _+_, _-_, _≤_, _<_}
 use native.Mathlib.Omega.{arith}
 use mathlib.Core.Bool.{Bool, true, false, cond, not, false≢true, _&&_, _||_}
 use mathlib.Core.List.{List, [], _∷_, _++_, append-nil}
 use mathlib.Core.Logic.{_⊎_, ⊎-elim}
 use mathlib.Core.Option.{Option, none, some, Option·map}
 use mathlib.Core.Path.{_≡_, refl, sym, ap, _∙_, subst}
-use borrow.Author.Tests.{eq-eqb, eqb-true, leb-true, ltb-true, not-true}
+use borrow.Author.Tests.{eq-eqb, eqb-true, leb-true, lt-ltb, ltb-true, not-true}
 use lib.Dec.{eqb, leb, ltb}
 use lib.ListN.{length, getD, take, drop, replicate}
 use lib.Seq.{take-all, take-at}
 use Rattle.octets.specs.Octets.{between}
 use Rattle.store.specs.declared.Measurement.the-variants.{Accepted, NotMeasured, WrongLength}
-use Rattle.store.specs.declared.Range.{Range}
+use Rattle.rows.specs.declared.Range.{Range}
 use Rattle.store.specs.declared.Store.{Store}
-use Rattle.store.specs.Rows.{Set, Switch, Number, Text, Free, Clock, Calendar, Row, rows, rowOf, allows, known, isIdentity, indexOf}
-use Rattle.store.specs.Sets.{lowFirstNumber, bytesOf, inRange, greatest, printable, isClock, isCalendar, member, leastAbove, greatestBelow}
-use Rattle.store.specs.Layout.{sizeOf, isText, filled, toSlot, fromSlot, valueOf}
-use Rattle.store.specs.Columns.{kindOf}
+use Rattle.rows.specs.Rows.{Set, Switch, Number, Text, Free, Clock, Calendar, Time, Row, rows, rowAt, rowOf, allows, known, isIdentity, indexOf}
+use Rattle.rows.specs.Rule.{Fits}
+use Rattle.rows.specs.Sets.{lowFirstNumber, bytesOf, inRange, greatest, printable, isClock, isCalendar, isTime, member, leastAbove, greatestBelow}
+use Rattle.rows.specs.Layout.{sizeOf, isText}
+use Rattle.store.specs.Layout.{filled, toSlot, fromSlot, valueOf}
+use Rattle.rows.specs.Columns.{kindOf}
 use Rattle.store.specs.Operations.{inverts, inverse, neighbour, measurable, accepted}
 use Rattle.store.specs.Laws.{Operation, Write, Raise, Lower, Measure, newValue}
 use Rattle.octets.proofs.Booleans.{both-true}
-use Rattle.store.proofs.Bools.{either, not-both, no-value, tested}
-use Rattle.store.proofs.SetColumns.{kind-free}
+use Rattle.rows.proofs.Bools.{either, not-both, no-value, tested}
+use Rattle.rows.proofs.SetColumns.{kind-free}
 use Rattle.store.proofs.Searches.{range-most, least-above, greatest-below}
-use Rattle.store.proofs.Tables.{each-row}
+use Rattle.rows.proofs.Rule.{everywhere, rows-follow}
+use Rattle.rows.proofs.Tables.{each-row}
 
 -- how long a member is: as long as its slot, a text at least its shortest
 unfoldable pub shortestOf : Set → ℕ
@@ -34,6 +37,7 @@ shortestOf (Text shortest longest) = shortest
 shortestOf (Free size) = size
 shortestOf Clock = 3
 shortestOf Calendar = 4
+shortestOf Time = 2
 
 exact : (n size : ℕ) (rest : Bool) → (eqb n size && rest) ≡ true → (size ≤ n) × (n ≤ size)
 exact n size rest e =
@@ -50,6 +54,7 @@ member-length (Text shortest longest) v e =
 member-length (Free size) v e = let same : length v ≡ size = eqb-true (length v) size e in (omega arith, omega arith)
 member-length Clock v e = exact (length v) 3 (isClock v) e
 member-length Calendar v e = exact (length v) 4 (isCalendar v) e
+member-length Time v e = exact (length v) 2 (isTime v) e
 
 plain-length : (set : Set) → isText set ≡ false → shortestOf set ≡ sizeOf set
 unfolding shortestOf
@@ -59,6 +64,7 @@ plain-length (Text shortest longest) e = absurd (false≢true (sym e))
 plain-length (Free size) e = refl
 plain-length Clock e = refl
 plain-length Calendar e = refl
+plain-length Time e = refl
 
 -- a value that fits its slot is read back
 filled-short : (size : ℕ) (v : List ℕ) → length v ≤ size → filled size v ≡ v ++ replicate (size - length v) 0
@@ -97,6 +103,7 @@ inverse-member (Text shortest longest) v held e = absurd (false≢true e)
 inverse-member (Free size) v held e = absurd (false≢true e)
 inverse-member Clock v held e = absurd (false≢true e)
 inverse-member Calendar v held e = absurd (false≢true e)
+inverse-member Time v held e = absurd (false≢true e)
 
 write-member : (set : Set) (v held w : List ℕ) (a b c : Bool) → member set v ≡ b → inverts set v ≡ c
     → cond a (cond b (some v) (cond c (some (inverse held)) none)) none ≡ some w → member set w ≡ true
@@ -115,10 +122,25 @@ numbered (Text shortest longest) = true
 numbered (Free size) = true
 numbered Clock = true
 numbered Calendar = true
+numbered Time = true
 
-pub numbered-row : (n : ℕ) → numbered (rowOf n .set) ≡ true
-unfolding rows numbered
-numbered-row n = tested (numbered (rowOf n .set)) (each-row (λ (r : Row). numbered (r .set)) tt tt (indexOf n))
+numbered-fits : (s : Set) → Fits s → numbered s ≡ true
+unfolding numbered
+numbered-fits Switch f = refl
+numbered-fits (Number zero r) f = absurd (omega (arith, f .0))
+numbered-fits (Number (suc zero) r) f = rw (lt-ltb (greatest r) 256 (f .2)) refl
+numbered-fits (Number (suc (suc zero)) r) f = rw (lt-ltb (greatest r) 65536 (f .2)) refl
+numbered-fits (Number (suc (suc (suc n))) r) f = absurd (omega (arith, f .1))
+numbered-fits (Text shortest longest) f = refl
+numbered-fits (Free size) f = refl
+numbered-fits Clock f = refl
+numbered-fits Calendar f = refl
+numbered-fits Time f = refl
+
+pub numbered-row : (unit n : ℕ) → numbered (rowOf unit n .set) ≡ true
+unfolding numbered
+numbered-row unit n =
+    everywhere (λ (r : Row). numbered (r .set) ≡ true) (λ k h. numbered-fits (rowAt k .set) (rows-follow k h .fits)) refl (indexOf unit n)
 
 number-back : (size x : ℕ) (r : Range) → numbered (Number size r) ≡ true → x ≤ greatest r → (length (bytesOf size x) ≡ size) × (lowFirstNumber (bytesOf size x) ≡ x)
 unfolding numbered
@@ -168,37 +190,38 @@ neighbour-member next stays (Text shortest longest) held w e h = absurd (no-valu
 neighbour-member next stays (Free size) held w e h = absurd (no-value w h)
 neighbour-member next stays Clock held w e h = absurd (no-value w h)
 neighbour-member next stays Calendar held w e h = absurd (no-value w h)
+neighbour-member next stays Time held w e h = absurd (no-value w h)
 
-allowed-member : (next : Range → ℕ → Option ℕ) → Stays next → (n : ℕ) (held w : List ℕ) (a : Bool)
-    → cond a (neighbour next (rowOf n .set) held) none ≡ some w → member (rowOf n .set) w ≡ true
-allowed-member next stays n held w true h = neighbour-member next stays (rowOf n .set) held w (numbered-row n) h
-allowed-member next stays n held w false h = absurd (no-value w h)
+allowed-member : (next : Range → ℕ → Option ℕ) → Stays next → (unit n : ℕ) (held w : List ℕ) (a : Bool)
+    → cond a (neighbour next (rowOf unit n .set) held) none ≡ some w → member (rowOf unit n .set) w ≡ true
+allowed-member next stays unit n held w true h = neighbour-member next stays (rowOf unit n .set) held w (numbered-row unit n) h
+allowed-member next stays unit n held w false h = absurd (no-value w h)
 
 -- a row that is not written takes any bytes of its size
 unwritten-free : Row → Bool
 unwritten-free r = leb 2 (r .functions) || eqb (kindOf (r .set)) 3
 
-free-row : (n : ℕ) → allows n 2 ≡ false → Free (sizeOf (rowOf n .set)) ≡ rowOf n .set
+free-row : (unit n : ℕ) → allows unit n 2 ≡ false → Free (sizeOf (rowOf unit n .set)) ≡ rowOf unit n .set
 unfolding rows unwritten-free
-free-row n e =
+free-row unit n e =
     ⊎-elim
     (λ p. absurd (not-both p e))
-    (λ p. kind-free (rowOf n .set) (eqb-true (kindOf (rowOf n .set)) 3 p))
-    (either (allows n 2) (eqb (kindOf (rowOf n .set)) 3) (tested (unwritten-free (rowOf n)) (each-row unwritten-free tt tt (indexOf n))))
+    (λ p. kind-free (rowOf unit n .set) (eqb-true (kindOf (rowOf unit n .set)) 3 p))
+    (either (allows unit n 2) (eqb (kindOf (rowOf unit n .set)) 3) (tested (unwritten-free (rowOf unit n)) (each-row unwritten-free tt tt (indexOf unit n))))
 
-measure-member : (n : ℕ) (v w : List ℕ) (a b : Bool) → measurable n ≡ a → eqb (length v) (sizeOf (rowOf n .set)) ≡ b
-    → accepted (cond a (cond b Accepted WrongLength) NotMeasured) v ≡ some w → member (rowOf n .set) w ≡ true
-measure-member n v w true true p q h =
+measure-member : (unit n : ℕ) (v w : List ℕ) (a b : Bool) → measurable unit n ≡ a → eqb (length v) (sizeOf (rowOf unit n .set)) ≡ b
+    → accepted (cond a (cond b Accepted WrongLength) NotMeasured) v ≡ some w → member (rowOf unit n .set) w ≡ true
+measure-member unit n v w true true p q h =
     let same : v ≡ w = cc in
-    let unwritten : allows n 2 ≡ false =
-    not-true (allows n 2) (both-true (known n) (not (allows n 2)) (both-true (known n && not (allows n 2)) (not (isIdentity n)) p .0) .1) in
-    ap (member (rowOf n .set)) (sym same) ∙ ap (λ (s : Set). member s v) (sym (free-row n unwritten)) ∙ q
-measure-member n v w true false p q h = absurd (no-value w h)
-measure-member n v w false b p q h = absurd (no-value w h)
+    let unwritten : allows unit n 2 ≡ false =
+    not-true (allows unit n 2) (both-true (known unit n) (not (allows unit n 2)) (both-true (known unit n && not (allows unit n 2)) (not (isIdentity n)) p .0) .1) in
+    ap (member (rowOf unit n .set)) (sym same) ∙ ap (λ (s : Set). member s v) (sym (free-row unit n unwritten)) ∙ q
+measure-member unit n v w true false p q h = absurd (no-value w h)
+measure-member unit n v w false b p q h = absurd (no-value w h)
 
-pub new-member : (operation : Operation) (s : Store) (n : ℕ) (w : List ℕ) → newValue operation s n ≡ some w → member (rowOf n .set) w ≡ true
+pub new-member : (operation : Operation) (s : Store) (n : ℕ) (w : List ℕ) → newValue operation s n ≡ some w → member (rowOf (s .unit) n .set) w ≡ true
 new-member (Write v) s n w h =
-    write-member (rowOf n .set) v (valueOf s n) w (allows n 2) (member (rowOf n .set) v) (inverts (rowOf n .set) v) refl refl h
-new-member Raise s n w h = allowed-member leastAbove (λ r x y k. least-above r x y k .within) n (valueOf s n) w (allows n 4) h
-new-member Lower s n w h = allowed-member greatestBelow (λ r x y k. greatest-below r x y k .within) n (valueOf s n) w (allows n 5) h
-new-member (Measure v) s n w h = measure-member n v w (measurable n) (eqb (length v) (sizeOf (rowOf n .set))) refl refl h
+    write-member (rowOf (s .unit) n .set) v (valueOf s n) w (allows (s .unit) n 2) (member (rowOf (s .unit) n .set) v) (inverts (rowOf (s .unit) n .set) v) refl refl h
+new-member Raise s n w h = allowed-member leastAbove (λ r x y k. least-above r x y k .within) (s .unit) n (valueOf s n) w (allows (s .unit) n 4) h
+new-member Lower s n w h = allowed-member greatestBelow (λ r x y k. greatest-below r x y k .within) (s .unit) n (valueOf s n) w (allows (s .unit) n 5) h
+new-member (Measure v) s n w h = measure-member (s .unit) n v w (measurable (s .unit) n) (eqb (length v) (sizeOf (rowOf (s .unit) n .set))) refl refl h

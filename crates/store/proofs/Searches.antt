@@ -8,12 +8,12 @@ use mathlib.Core.Path.{_≡_, refl, sym, ap, _∙_}
 use borrow.Author.Tests.{eqb-true, leb-true, lt-ltb, le-ltb}
 use lib.Dec.{eqb, leb}
 use Rattle.octets.specs.Octets.{between}
-use Rattle.store.specs.declared.Range.{Range}
-use Rattle.store.specs.Sets.{inRange, greatest, leastAbove, greatestBelow, firstAfter, firstBefore}
+use Rattle.rows.specs.declared.Range.{Range}
+use Rattle.rows.specs.Sets.{inRange, greatest, leastAbove, greatestBelow, firstAfter, firstBefore}
 use Rattle.store.specs.Laws.{Least, Greatest}
 use Rattle.octets.proofs.Booleans.{both-true}
-use Rattle.store.proofs.Bools.{either, not-both, no-value}
-use Rattle.store.proofs.Tables.{in-or-past}
+use Rattle.rows.proofs.Bools.{either, not-both, no-value}
+use Rattle.rows.proofs.Tables.{in-or-past}
 
 -- no number of a range exceeds its greatest
 pub range-most : (r : Range) (x : ℕ) → inRange r x ≡ true → x ≤ greatest r

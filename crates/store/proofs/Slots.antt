@@ -11,9 +11,11 @@ use lib.ListN.{length, getD, take, drop, replicate, length-append, length-take, 
 use lib.Seq.{take-all, take-at, take-nil, drop-at, drop-drop, getD-take, getD-drop, length-take-le}
 use Rattle.octets.specs.Octets.{overwrite, fits}
 use Rattle.store.specs.declared.Store.{Store}
-use Rattle.store.specs.Rows.{Set, Row, rows, noRow}
-use Rattle.store.specs.Layout.{rowCount, storeSize, longest, sizeOf, isText, widthOf, placesFrom, setAt, placeAt, filled, fromSlot, overwritten, withValueAt}
-use Rattle.store.proofs.Tables.{rows-length, places-length, no-row, in-or-past}
+use Rattle.rows.specs.Rows.{Set, Row, rows, noRow}
+use Rattle.rows.specs.Layout.{rowCount, storeSize, longest, sizeOf, isText, widthOf, placesFrom, setAt, placeAt}
+use Rattle.store.specs.Layout.{storeOf, filled, fromSlot, overwritten, withValueAt}
+use Rattle.rows.proofs.Found as found
+use Rattle.rows.proofs.Tables.{places-length, no-row, in-or-past}
 
 -- a part of a list that begins past its end, or reaches to it
 pub part-past : (l : List ℕ) (from count : ℕ) → length l ≤ from → [] ≡ take count (drop from l)
@@ -24,33 +26,13 @@ part-rest l from count h =
     take-all (length l - from) (drop from l) (omega (arith, length-drop from l))
     ∙ sym (take-all count (drop from l) (omega (arith, length-drop from l)))
 
--- the slots of rows, together
-widths : List Row → ℕ
-widths [] = 0
-widths (r ∷ rs) = widthOf (r .set) + widths rs
-
-widths-rows : widths rows ≡ storeSize
-unfolding widths rows
-widths-rows = refl
-
--- each slot begins where those before it end, and ends within the whole
-places-within : (from : ℕ) (l : List Row) (k : ℕ) → k < length l → getD (placesFrom from l) k 0 + widthOf (getD l k noRow .set) ≤ from + widths l
-unfolding widths placesFrom
-places-within from [] k h = absurd (not-suc-le-zero h)
-places-within from (r ∷ rs) zero h = omega arith
-places-within from (r ∷ rs) (suc k) h = omega (arith, places-within (from + widthOf (r .set)) rs k (le-of-suc-le-suc h))
-
 -- past the last row there is no slot
 pub past : (k : ℕ) → rowCount ≤ k → (placeAt k ≡ 0) × (widthOf (setAt k) ≡ 0)
 past k h =
-    (List·getD-eq-default (placesFrom 0 rows) 0 (rw places-length h), ap (λ (r : Row). widthOf (r .set)) (sym (no-row k h)))
+    (List·getD-eq-default (placesFrom 0 0 rows) 0 (rw places-length h), ap (λ (r : Row). widthOf (r .set)) (sym (no-row k h)))
 
 pub place-within : (k : ℕ) → placeAt k + widthOf (setAt k) ≤ storeSize
-place-within k =
-    ⊎-elim
-    (λ h. omega (arith, places-within 0 rows k (rw rows-length h), widths-rows))
-    (λ h. omega (arith, past k h))
-    (in-or-past k rowCount)
+place-within k = ⊎-elim (λ h. found.place-within k h) (λ h. omega (arith, past k h)) (in-or-past k rowCount)
 
 pub size-width : (s : Set) → sizeOf s ≤ widthOf s
 size-width s = choose (isText s)
@@ -78,10 +60,10 @@ value-text s at l e =
 
 -- bytes put into a store
 pub put-eq : (s : Store) (at : ℕ) (v after : List ℕ) → length (s .bytes) ≡ storeSize → at + length v ≤ storeSize
-    → after ≡ cond (fits (s .bytes) at v) (overwrite (s .bytes) at v) (s .bytes) → _≡_ {A = Store} (record { bytes = after }) (overwritten s at v)
+    → after ≡ cond (fits (s .bytes) at v) (overwrite (s .bytes) at v) (s .bytes) → storeOf (s .unit) after ≡ overwritten s at v
 put-eq s at v after n h e =
     let within : at + length v ≤ length (s .bytes) = omega arith in
-    ap {B = Store} (λ (l : List ℕ). record { bytes = l }) (e ∙ simp (le-leb _ _ within))
+    ap (storeOf (s .unit)) (e ∙ simp (le-leb _ _ within))
 
 -- bytes put after others are put with them
 pub overwrite-append : (l : List ℕ) (at : ℕ) (x y : List ℕ) → at + length x + length y ≤ length l
@@ -100,7 +82,7 @@ overwrite-append l at x y h =
 pub put-append : (s : Store) (at : ℕ) (x y : List ℕ) → length (s .bytes) ≡ storeSize → at + length x + length y ≤ storeSize
     → overwritten (overwritten s at x) (at + length x) y ≡ overwritten s at (x ++ y)
 put-append s at x y n h =
-    ap {B = Store} (λ (l : List ℕ). record { bytes = l }) (overwrite-append (s .bytes) at x y (omega arith))
+    ap (storeOf (s .unit)) (overwrite-append (s .bytes) at x y (omega arith))
 
 take-replicate : (n m x : ℕ) → n ≤ m → take n (replicate m x) ≡ replicate n x
 take-replicate zero m x h = refl

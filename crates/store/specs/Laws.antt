@@ -6,11 +6,14 @@ use mathlib.Core.Logic.{_⊎_}
 use mathlib.Core.Option.{Option, some}
 use mathlib.Core.Path.{_≡_}
 use lib.ListN.{length}
-use Rattle.store.specs.declared.Range.{Range}
+use Rattle.octets.specs.Octets.{between}
+use Rattle.rows.specs.declared.Range.{Range}
+use Rattle.rows.specs.Layout.{storeSize}
+use Rattle.rows.specs.Rows.{Number, rowOf, allows, known, isIdentity}
+use Rattle.rows.specs.Sets.{lowFirstNumber, inRange}
+use Rattle.rows.specs.Start.{startValue}
 use Rattle.store.specs.declared.Store.{Store}
-use Rattle.store.specs.Rows.{Number, rowOf, allows, known, isIdentity}
-use Rattle.store.specs.Sets.{lowFirstNumber, inRange}
-use Rattle.store.specs.Layout.{storeSize, slotOf, valueOf}
+use Rattle.store.specs.Layout.{slotOf, valueOf}
 use Rattle.store.specs.Operations.{legal, writeValue, raiseValue, lowerValue, measurement, accepted, stored, affected}
 use Rattle.store.specs.Start.{start}
 use Rattle.store.specs.Sound.{sound}
@@ -26,7 +29,7 @@ abbrev pub newValue : Operation → Store → ℕ → Option (List ℕ)
 newValue (Write value) store n = writeValue store n value
 newValue Raise store n = raiseValue store n
 newValue Lower store n = lowerValue store n
-newValue (Measure value) store n = accepted (measurement n value) value
+newValue (Measure value) store n = accepted (measurement (store .unit) n value) value
 
 -- `written`, `raised`, `lowered` or `measured`
 abbrev pub after : Operation → Store → ℕ → Store
@@ -38,6 +41,10 @@ Sized store = length (store .bytes) ≡ storeSize
 
 abbrev pub SizeKept : Type 0
 SizeKept = (operation : Operation) (store : Store) (n : ℕ) → Sized store → Sized (after operation store n)
+
+-- the unit type stays whatever is done
+abbrev pub UnitKept : Type 0
+UnitKept = (operation : Operation) (store : Store) (n : ℕ) → after operation store n .unit ≡ store .unit
 
 -- parameters that an operation does not affect keep their bytes
 abbrev pub OthersKept : Type 0
@@ -62,20 +69,25 @@ SoundKept = (operation : Operation) (store : Store) (n : ℕ) → Sized store �
 
 -- in a sound store each parameter's value is one of its set, and has 1 to 64 bytes
 abbrev pub HeldLegal : Type 0
-HeldLegal = (store : Store) (n : ℕ) → sound store ≡ true → known n ≡ true → legal store n (valueOf store n) ≡ true
+HeldLegal = (store : Store) (n : ℕ) → sound store ≡ true → known (store .unit) n ≡ true → legal store n (valueOf store n) ≡ true
 
 abbrev pub HeldLength : Type 0
-HeldLength = (store : Store) (n : ℕ) → sound store ≡ true → known n ≡ true → (1 ≤ length (valueOf store n)) × (length (valueOf store n) ≤ 64)
+HeldLength = (store : Store) (n : ℕ) → sound store ≡ true → known (store .unit) n ≡ true → (1 ≤ length (valueOf store n)) × (length (valueOf store n) ≤ 64)
 
--- the start store of an ID
+-- the start store of an ID and a unit type: each row that the unit type has holds its start value
 abbrev pub StartSized : Type 0
-StartSized = (id : List ℕ) → length id ≡ 16 → Sized (start id)
+StartSized = (id : List ℕ) (unit : ℕ) → Sized (start id unit)
 
-abbrev pub StartSound : Type 0
-StartSound = (id : List ℕ) → length id ≡ 16 → sound (start id) ≡ true
+abbrev pub StartHeld : Type 0
+StartHeld = (id : List ℕ) (unit n : ℕ) → length id ≡ 16 → known unit n ≡ true → valueOf (start id unit) n ≡ startValue unit id (rowOf unit n)
 
 abbrev pub StartIdentity : Type 0
-StartIdentity = (id : List ℕ) → length id ≡ 16 → (valueOf (start id) 0x007C ≡ id) × (valueOf (start id) 0x00B9 ≡ 2 ∷ 0 ∷ [])
+StartIdentity =
+    (id : List ℕ) (unit : ℕ) → length id ≡ 16 → between 2 5 unit ≡ true
+    → (valueOf (start id unit) 0x007C ≡ id) × (valueOf (start id unit) 0x00B9 ≡ unit ∷ 0 ∷ [])
+
+abbrev pub StartSound : Type 0
+StartSound = (id : List ℕ) (unit : ℕ) → length id ≡ 16 → sound (start id unit) ≡ true
 
 -- y is the least number of a range above x
 pub record Least (r : Range) (x y : ℕ) : Type 0 where
@@ -95,12 +107,12 @@ heldNumber store n = lowFirstNumber (valueOf store n)
 -- a raise gives the least number above the one held, or there is none and nothing changes
 abbrev pub RaiseLeast : Type 0
 RaiseLeast =
-    (store : Store) (n size : ℕ) (r : Range) → Sized store → allows n 4 ≡ true → rowOf n .set ≡ Number size r
+    (store : Store) (n size : ℕ) (r : Range) → Sized store → allows (store .unit) n 4 ≡ true → rowOf (store .unit) n .set ≡ Number size r
     → Least r (heldNumber store n) (heldNumber (after Raise store n) n)
     ⊎ ((after Raise store n ≡ store) × ((z : ℕ) → inRange r z ≡ true → z ≤ heldNumber store n))
 
 abbrev pub LowerGreatest : Type 0
 LowerGreatest =
-    (store : Store) (n size : ℕ) (r : Range) → Sized store → allows n 5 ≡ true → rowOf n .set ≡ Number size r
+    (store : Store) (n size : ℕ) (r : Range) → Sized store → allows (store .unit) n 5 ≡ true → rowOf (store .unit) n .set ≡ Number size r
     → Greatest r (heldNumber store n) (heldNumber (after Lower store n) n)
     ⊎ ((after Lower store n ≡ store) × ((z : ℕ) → inRange r z ≡ true → heldNumber store n ≤ z))

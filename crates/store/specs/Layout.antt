@@ -1,54 +1,12 @@
--- Where values stand in the store: the rows' slots one after the other, in the table's order.
-use Prim.Native.Nat.{ℕ, suc, _+_, _-_}
-use mathlib.Core.Bool.{Bool, true, false, cond}
-use mathlib.Core.List.{List, [], _∷_, _++_}
+-- What stands in the rows' slots.
+use Prim.Native.Nat.{ℕ, _-_}
+use mathlib.Core.Bool.{cond}
+use mathlib.Core.List.{List, _∷_, _++_}
 use lib.ListN.{length, getD, take, drop, replicate}
 use Rattle.octets.specs.Octets.{overwrite}
+use Rattle.rows.specs.Layout.{sizeOf, isText, widthOf, setAt, placeAt}
+use Rattle.rows.specs.Rows.{Set, indexOf}
 use Rattle.store.specs.declared.Store.{Store}
-use Rattle.store.specs.Rows.{Set, Switch, Number, Text, Free, Clock, Calendar, Row, rows, indexOf, rowAt}
-
--- how many rows there are, and how many bytes they take
-abbrev pub rowCount : ℕ
-rowCount = 72
-
-abbrev pub storeSize : ℕ
-storeSize = 227
-
--- no value is longer
-abbrev pub longest : ℕ
-longest = 64
-
--- how many bytes a value has, a text at most
-abbrev pub sizeOf : Set → ℕ
-sizeOf Switch = 1
-sizeOf (Number size r) = size
-sizeOf (Text shortest longest) = longest
-sizeOf (Free size) = size
-sizeOf Clock = 3
-sizeOf Calendar = 4
-
-abbrev pub isText : Set → Bool
-isText Switch = false
-isText (Number size r) = false
-isText (Text shortest longest) = true
-isText (Free size) = false
-isText Clock = false
-isText Calendar = false
-
--- how many bytes of the store a row takes: a text has its length before it
-abbrev pub widthOf : Set → ℕ
-widthOf set = cond (isText set) (suc (sizeOf set)) (sizeOf set)
-
--- where each row begins, the first at `from`
-unfoldable pub placesFrom : ℕ → List Row → List ℕ
-placesFrom from [] = []
-placesFrom from (r ∷ rs) = from ∷ placesFrom (from + widthOf (r .set)) rs
-
-abbrev pub setAt : ℕ → Set
-setAt index = rowAt index .set
-
-abbrev pub placeAt : ℕ → ℕ
-placeAt index = getD (placesFrom 0 rows) index 0
 
 -- bytes that fill a slot of a size: a longer list is cut, a shorter one followed by zeros
 abbrev pub filled : ℕ → List ℕ → List ℕ
@@ -70,23 +28,26 @@ slotAt bytes index = take (widthOf (setAt index)) (drop (placeAt index) bytes)
 abbrev pub valueAt : List ℕ → ℕ → List ℕ
 valueAt bytes index = fromSlot (setAt index) (slotAt bytes index)
 
+abbrev pub storeOf : ℕ → List ℕ → Store
+storeOf unit bytes = record { unit = unit; bytes = bytes }
+
 abbrev pub overwritten : Store → ℕ → List ℕ → Store
-overwritten store at bytes = record { bytes = overwrite (store .bytes) at bytes }
+overwritten store at bytes = storeOf (store .unit) (overwrite (store .bytes) at bytes)
 
 abbrev pub withValueAt : Store → ℕ → List ℕ → Store
 withValueAt store index value = overwritten store (placeAt index) (toSlot (setAt index) value)
 
 -- the bytes of the store that are a parameter's own; an unknown parameter has none
 abbrev pub slotOf : Store → ℕ → List ℕ
-slotOf store n = slotAt (store .bytes) (indexOf n)
+slotOf store n = slotAt (store .bytes) (indexOf (store .unit) n)
 
--- the value that a parameter holds
-abbrev pub valueIn : List ℕ → ℕ → List ℕ
-valueIn bytes n = valueAt bytes (indexOf n)
+-- the value that a parameter holds, in the bytes of a store of this unit type
+abbrev pub valueIn : List ℕ → ℕ → ℕ → List ℕ
+valueIn bytes unit n = valueAt bytes (indexOf unit n)
 
 abbrev pub valueOf : Store → ℕ → List ℕ
-valueOf store n = valueIn (store .bytes) n
+valueOf store n = valueIn (store .bytes) (store .unit) n
 
 -- the store with another value for a parameter
 abbrev pub withValue : Store → ℕ → List ℕ → Store
-withValue store n value = withValueAt store (indexOf n) value
+withValue store n value = withValueAt store (indexOf (store .unit) n) value

@@ -1,10 +1,6 @@
-pub mod Rows
-pub mod Sets
 pub mod Layout
-pub mod Columns
 pub mod Operations
 pub mod Start
 pub mod Sound
 pub mod Temperatures
 pub mod Laws
-pub mod Next

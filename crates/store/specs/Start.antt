@@ -1,41 +1,35 @@
 -- The store as set-up leaves it.
-use Prim.Native.Nat.{ℕ}
-use mathlib.Core.Bool.{cond}
+use Prim.Native.Nat.{ℕ, _+_, _-_}
+use mathlib.Core.Bool.{Bool, true, false, cond, not}
 use mathlib.Core.List.{List, [], _∷_, _++_}
-use lib.Dec.{eqb, ltb}
 use lib.ListN.{replicate}
-use Rattle.store.specs.declared.Range.{Range}
+use Rattle.rows.specs.Layout.{storeSize, widthOf, isMicra, ofMicra}
+use Rattle.rows.specs.Rows.{Row, rows, indexOf}
+use Rattle.rows.specs.Start.{startValue}
 use Rattle.store.specs.declared.Store.{Store}
-use Rattle.store.specs.Rows.{Set, Switch, Number, Text, Free, Clock, Calendar, Row, rows}
-use Rattle.store.specs.Sets.{bytesOf}
-use Rattle.store.specs.Layout.{toSlot}
+use Rattle.store.specs.Layout.{toSlot, storeOf, withValueAt}
 
--- the least number of a range
-abbrev pub least : Range → ℕ
-least r = cond (ltb (r .extra) (r .low)) (r .extra) (r .low)
+-- whether a row is of a product: the Micra, or the VENTO Expert
+abbrev pub ofProduct : Bool → Row → Bool
+ofProduct true r = ofMicra r
+ofProduct false r = not (ofMicra r)
 
--- the lowest bytes of a set; of the calendar the first date, Saturday 1 January 2000
-unfoldable pub lowest : Set → List ℕ
-lowest Switch = 0 ∷ []
-lowest (Number size r) = bytesOf size (least r)
-lowest (Text shortest longest) = replicate shortest 0x20
-lowest (Free size) = replicate size 0
-lowest Clock = 0 ∷ 0 ∷ 0 ∷ []
-lowest Calendar = 1 ∷ 6 ∷ 1 ∷ 0 ∷ []
+-- the slots of a product's rows with their start values, one after the other, and `rest` behind them; and how many bytes they take
+unfoldable pub startSlots : Bool → ℕ → List ℕ → List ℕ → List Row → List ℕ
+startSlots micra unit id rest [] = rest
+startSlots micra unit id rest (r ∷ rs) = cond (ofProduct micra r) (toSlot (r .set) (startValue unit id r)) [] ++ startSlots micra unit id rest rs
 
-unfoldable pub startValue : List ℕ → Row → List ℕ
-startValue id r =
-    cond (eqb (r .number) 0x0037) (100 ∷ [])
-    (cond (eqb (r .number) 0x007C) id
-    (cond (eqb (r .number) 0x0095) (0x41 ∷ [])
-    (cond (eqb (r .number) 0x0096) (replicate 8 0x30)
-    (cond (eqb (r .number) 0x00B9) (2 ∷ 0 ∷ [])
-    (lowest (r .set))))))
+unfoldable pub productSize : Bool → List Row → ℕ
+productSize micra [] = 0
+productSize micra (r ∷ rs) = cond (ofProduct micra r) (widthOf (r .set)) 0 + productSize micra rs
 
--- the slots of rows with their start values, one after the other
-unfoldable pub startSlots : List ℕ → List Row → List ℕ
-startSlots id [] = []
-startSlots id (r ∷ rs) = toSlot (r .set) (startValue id r) ++ startSlots id rs
+-- zeros behind them
+unfoldable pub startBytes : Bool → ℕ → List ℕ → List ℕ
+startBytes micra unit id = startSlots micra unit id (replicate (storeSize - productSize micra rows) 0) rows
 
-unfoldable pub start : List ℕ → Store
-start id = record { bytes = startSlots id rows }
+unfoldable pub start : List ℕ → ℕ → Store
+start id unit = storeOf unit (startBytes (isMicra unit) unit id)
+
+-- a store with the ID and its unit type in the rows of the identity, where the unit type `own` has them
+abbrev pub withIdentity : Store → ℕ → List ℕ → Store
+withIdentity store own id = withValueAt (withValueAt store (indexOf own 0x00B9) (store .unit ∷ 0 ∷ [])) (indexOf own 0x007C) id

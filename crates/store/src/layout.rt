@@ -2,11 +2,12 @@
 ghost use mathlib.Core.Path.{_≡_};
 ghost use Prim.Native.Nat.{_+_, _≤_};
 ghost use lib.ListN.{length, take, drop};
-ghost use Rattle.store.specs.Layout.{storeSize, longest, filled, overwritten, isText, setAt, valueAt, withValueAt};
+ghost use Rattle.rows.specs.Layout.{storeSize, longest, isText, setAt};
+ghost use Rattle.store.specs.Layout.{filled, overwritten, valueAt, withValueAt};
 use crate::Store;
-use crate::columns::kind_at;
-use crate::columns::place_at;
-use crate::columns::size_at;
+use rows::lookup::kind_at;
+use rows::lookup::place_at;
+use rows::lookup::size_at;
 
 // No value is longer.
 const LONGEST: usize = 64;
@@ -29,7 +30,7 @@ pub fn part(bytes: &[u8], from: usize, count: usize) -> &[u8]
 fn is_text(index: usize) -> bool
     ensures { λ r. ⌜ r ≡ isText (setAt index) ⌝ }
 {
-    kind_at(index) == crate::columns::TEXT
+    kind_at(index) == rows::TEXT
 }
 
 // The value that the row at an index holds.
@@ -53,7 +54,10 @@ fn put(store: Store, at: usize, bytes: &[u8]) -> Store
 {
     let mut all = store.bytes;
     octets::overwrite(&mut all, at, bytes);
-    Store { bytes: all }
+    Store {
+        unit: store.unit,
+        bytes: all,
+    }
 }
 
 // The store with a value that fills a slot, what it leaves of the slot zero.

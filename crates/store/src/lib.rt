@@ -1,49 +1,48 @@
 // The parameter store: what each row holds, and what reading, writing and measuring make of it.
-ghost use mathlib.Core.Bool.{cond};
+ghost use mathlib.Core.Bool.{cond, not, _||_};
 ghost use mathlib.Core.List.{[], _∷_};
 ghost use mathlib.Core.Option.{none};
 ghost use mathlib.Core.Path.{_≡_};
-ghost use Rattle.store.specs.Rows.{rowOf, allows as allowsOf, isIdentity};
-ghost use Rattle.store.specs.Sets.{leastAbove, greatestBelow};
-ghost use Rattle.store.specs.Layout.{setAt, valueIn, valueOf};
+ghost use Rattle.rows.specs.Layout.{setAt};
+ghost use Rattle.rows.specs.Rows.{rowAt, rowOf, has as hasOf, allows as allowsOf, isIdentity};
+ghost use Rattle.rows.specs.Sets.{leastAbove, greatestBelow, member};
+ghost use Rattle.store.specs.Layout.{valueAt, valueIn, valueOf};
 ghost use Rattle.store.specs.Operations.{found, inverts as invertsOf, inverse as inverseOf, neighbour as neighbourOf, stored};
 ghost use Rattle.store.specs.Operations.{written, raised, lowered, measurable, measurement, Measures, answer};
-ghost use Rattle.store.specs.Start.{start as startOf};
+ghost use Rattle.store.specs.Start.{start as startOf, withIdentity};
 ghost use Rattle.store.specs.Sound.{sound as soundOf};
 
-mod columns;
 mod layout;
-mod sets;
+mod start_bytes;
 mod temperatures;
 mod tenths;
 
-use columns::allows;
-use columns::index_of;
-use columns::kind_at;
-use columns::size_at;
 use layout::part;
 use layout::value_at;
 use layout::with_value_at;
-use sets::Next;
-use sets::is_member;
-use sets::low_first_number;
-use sets::neighbour;
+use rows::ID;
+use rows::UNIT_TYPE;
+use rows::lookup::allows;
+use rows::lookup::has;
+use rows::lookup::index_of;
+use rows::lookup::kind_at;
+use rows::lookup::size_at;
+use rows::sets::Next;
+use rows::sets::is_member;
+use rows::sets::low_first_number;
+use rows::sets::neighbour;
 use temperatures::store_value;
-
-// The parameters of the identity: the board's ID and its unit type.
-pub const ID: u16 = 0x007C;
-
-pub const UNIT_TYPE: u16 = 0x00B9;
 
 // The bytes of an ID.
 const ID_SIZE: usize = 16;
 
-// The bytes that the slots of all rows take.
+// The bytes that the slots of a product's rows take at most.
 pub const BYTES: usize = 227;
 
-// A store: each row's value in its slot, the slots one after the other.
+// A store: the unit type, and the value of each row that it has in its slot, the slots of a product one after the other.
 #[repr(C)]
 pub struct Store {
+    pub unit: u8,
     pub bytes: [u8; BYTES],
 }
 
@@ -51,14 +50,6 @@ pub struct Store {
 pub enum Found {
     At(usize),
     Nothing,
-}
-
-// The numbers low, low + step, .. up to high, and one more, which is low itself where there is none.
-pub struct Range {
-    pub extra: u16,
-    pub low: u16,
-    pub high: u16,
-    pub step: u16,
 }
 
 // What a command is answered with.
@@ -80,40 +71,27 @@ pub struct Measured {
     pub store: Store,
 }
 
-// What a row's value is measured in, if it is a temperature.
-pub enum Quantity {
-    Plain,
-    Tenths,
-    WholeDegrees,
-}
-
-// A temperature setpoint.
-#[repr(C)]
-pub struct WholeDegrees {
-    pub degrees: u8,
-}
-
 // Looks a number up in the table of rows.
-pub fn find(number: u16) -> Found
-    ensures { λ r. ⌜ r ≡ found number ⌝ }
+pub fn find(unit: u8, number: u16) -> Found
+    ensures { λ r. ⌜ r ≡ found unit number ⌝ }
 {
-    if allows(number, 1) {
-        return Found::At(index_of(number));
+    if allows(unit, number, 1) {
+        return Found::At(index_of(unit, number));
     }
     Found::Nothing
 }
 
-// The value that a parameter holds, as a part of a store's bytes; an unknown parameter holds none.
-pub fn held(bytes: &[u8], number: u16) -> &[u8]
-    ensures { λ r. ⌜ now r ≡ valueIn (now (bytes .entry)) number ⌝ }
+// The value that a parameter holds, as a part of the bytes of a store of this unit type; an unknown parameter holds none.
+pub fn held(bytes: &[u8], unit: u8, number: u16) -> &[u8]
+    ensures { λ r. ⌜ now r ≡ valueIn (now (bytes .entry)) unit number ⌝ }
 {
-    value_at(bytes, index_of(number))
+    value_at(bytes, index_of(unit, number))
 }
 
 fn inverts(index: usize, value: &[u8]) -> bool
     ensures { λ r. ⌜ r ≡ invertsOf (setAt index) (now (value .entry)) ⌝ }
 {
-    if kind_at(index) != columns::SWITCH {
+    if kind_at(index) != rows::SWITCH {
         return false;
     }
     if value.len() != 1 {
@@ -135,10 +113,10 @@ fn inverse(held: &[u8]) -> u8
 pub fn write(store: Store, number: u16, value: &[u8]) -> Store
     ensures { λ r. ⌜ r ≡ written store number (now (value .entry)) ⌝ }
 {
-    if !allows(number, 2) {
+    if !allows(store.unit, number, 2) {
         return store;
     }
-    let index = index_of(number);
+    let index = index_of(store.unit, number);
     if is_member(index, value) {
         return store_value(store, number, value);
     }
@@ -152,13 +130,13 @@ pub fn write(store: Store, number: u16, value: &[u8]) -> Store
 
 // The next value up or down, where the row allows the function.
 fn move_to_neighbour(store: Store, number: u16, function: u8, up: bool) -> Store
-    ensures { λ r. ⌜ r ≡ stored store number (cond (allowsOf number function) (neighbourOf (cond up leastAbove greatestBelow) (rowOf number .set) (valueOf store number)) none) ⌝ }
+    ensures { λ r. ⌜ r ≡ stored store number (cond (allowsOf (store .unit) number function) (neighbourOf (cond up leastAbove greatestBelow) (rowOf (store .unit) number .set) (valueOf store number)) none) ⌝ }
 {
-    if !allows(number, function) {
+    if !allows(store.unit, number, function) {
         return store;
     }
-    let index = index_of(number);
-    if kind_at(index) != columns::NUMBER {
+    let index = index_of(store.unit, number);
+    if kind_at(index) != rows::NUMBER {
         return store;
     }
     let bytes = store.bytes;
@@ -192,25 +170,25 @@ fn is_identity(number: u16) -> bool
     number == ID || number == UNIT_TYPE
 }
 
-fn is_measurable(number: u16) -> bool
-    ensures { λ r. ⌜ r ≡ measurable number ⌝ }
+fn is_measurable(unit: u8, number: u16) -> bool
+    ensures { λ r. ⌜ r ≡ measurable unit number ⌝ }
 {
-    if !allows(number, 1) {
+    if !allows(unit, number, 1) {
         return false;
     }
-    if allows(number, 2) {
+    if allows(unit, number, 2) {
         return false;
     }
     !is_identity(number)
 }
 
-fn judge(number: u16, value: &[u8]) -> Measurement
-    ensures { λ r. ⌜ r ≡ measurement number (now (value .entry)) ⌝ }
+fn judge(unit: u8, number: u16, value: &[u8]) -> Measurement
+    ensures { λ r. ⌜ r ≡ measurement unit number (now (value .entry)) ⌝ }
 {
-    if !is_measurable(number) {
+    if !is_measurable(unit, number) {
         return Measurement::NotMeasured;
     }
-    if value.len() != size_at(index_of(number)) {
+    if value.len() != size_at(index_of(unit, number)) {
         return Measurement::WrongLength;
     }
     Measurement::Accepted
@@ -220,7 +198,7 @@ fn judge(number: u16, value: &[u8]) -> Measurement
 pub fn measure(store: Store, number: u16, value: &[u8]) -> Measured
     ensures { λ r. ⌜ Measures store number (now (value .entry)) r ⌝ }
 {
-    let answer = judge(number, value);
+    let answer = judge(store.unit, number, value);
     let Measurement::Accepted = answer else {
         return Measured { answer, store };
     };
@@ -231,13 +209,13 @@ pub fn measure(store: Store, number: u16, value: &[u8]) -> Measured
 }
 
 // What a command is answered with.
-pub fn answered_with(function: u8, number: u16) -> Answer
-    ensures { λ r. ⌜ r ≡ answer function number ⌝ }
+pub fn answered_with(unit: u8, function: u8, number: u16) -> Answer
+    ensures { λ r. ⌜ r ≡ answer unit function number ⌝ }
 {
     match function {
         2 => Answer::Silence,
         _ => {
-            if allows(number, 1) {
+            if allows(unit, number, 1) {
                 return Answer::Value;
             }
             Answer::Unknown
@@ -245,24 +223,52 @@ pub fn answered_with(function: u8, number: u16) -> Answer
     }
 }
 
-// The store as set-up leaves it, with the board's ID.
-pub fn start(id: [u8; ID_SIZE]) -> Store
-    ensures { λ r. ⌜ r ≡ startOf id ⌝ }
+// A store with the ID and its unit type in the rows of the identity, where the unit type `own` has them.
+fn with_identity(store: Store, own: u8, id: [u8; ID_SIZE]) -> Store
+    ensures { λ r. ⌜ r ≡ withIdentity store own id ⌝ }
 {
-    let blank = Store {
-        bytes: columns::START,
-    };
-    with_value_at(blank, index_of(ID), &id)
+    let unit_type = [store.unit, 0];
+    let typed = with_value_at(store, index_of(own, UNIT_TYPE), &unit_type);
+    with_value_at(typed, index_of(own, ID), &id)
 }
 
-// Whether each row holds a value of its set.
+// The store as set-up leaves it, with the board's ID and unit type.
+pub fn start(id: [u8; ID_SIZE], unit: u8) -> Store
+    ensures { λ r. ⌜ r ≡ startOf id unit ⌝ }
+{
+    if unit == rows::MICRA {
+        let blank = Store {
+            unit,
+            bytes: start_bytes::MICRA,
+        };
+        return with_identity(blank, rows::MICRA, id);
+    }
+    let blank = Store {
+        unit,
+        bytes: start_bytes::EXPERT,
+    };
+    with_identity(blank, 3, id)
+}
+
+// Whether the row at an index holds a value of its set, or the unit type lacks it.
+fn row_sound(bytes: &[u8], unit: u8, index: usize) -> bool
+    ensures { λ r. ⌜ r ≡ (not (hasOf unit (rowAt index)) || member (setAt index) (valueAt (now (bytes .entry)) index)) ⌝ }
+{
+    if !has(unit, index) {
+        return true;
+    }
+    is_member(index, value_at(bytes, index))
+}
+
+// Whether each row that the unit type has holds a value of its set.
 pub fn sound(store: Store) -> bool
     ensures { λ r. ⌜ r ≡ soundOf store ⌝ }
 {
+    let unit = store.unit;
     let bytes = store.bytes;
     let mut index: usize = 0;
-    while index < columns::ROWS {
-        if is_member(index, value_at(&bytes, index)) {
+    while index < rows::ROWS {
+        if row_sound(&bytes, unit, index) {
             index += 1;
         } else {
             return false;

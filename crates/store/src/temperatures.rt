@@ -3,20 +3,20 @@
 ghost use mathlib.Core.Bool.{false};
 ghost use mathlib.Core.List.{[], _∷_};
 ghost use mathlib.Core.Path.{_≡_};
-ghost use Rattle.store.specs.Rows.{rowAt};
-ghost use Rattle.store.specs.Sets.{bytesOf};
+ghost use Rattle.rows.specs.Rows.{rowAt};
+ghost use Rattle.rows.specs.Sets.{bytesOf};
 ghost use Rattle.store.specs.Layout.{withValueAt, withValue};
 ghost use Rattle.store.specs.Temperatures.{isMark, bitsOf, readingOf};
-use crate::Quantity;
 use crate::Store;
-use crate::WholeDegrees;
-use crate::columns::index_of;
-use crate::columns::quantity_at;
 use crate::layout::with_value_at;
-use crate::sets::low_first_number;
 use crate::tenths::Tenths;
 use crate::tenths::bits_of;
 use crate::tenths::tenths_of;
+use rows::Quantity;
+use rows::WholeDegrees;
+use rows::lookup::index_of;
+use rows::lookup::quantity_at;
+use rows::sets::low_first_number;
 
 // What a sensor says: a temperature, or one of two marks that are none.
 enum Reading {
@@ -71,7 +71,7 @@ fn store_measured(store: Store, index: usize, value: &[u8]) -> Store
 pub fn store_value(store: Store, number: u16, value: &[u8]) -> Store
     ensures { λ r. ⌜ r ≡ withValue store number (now (value .entry)) ⌝ }
 {
-    let index = index_of(number);
+    let index = index_of(store.unit, number);
     let quantity = quantity_at(index);
     match quantity {
         Quantity::Plain => with_value_at(store, index, value),

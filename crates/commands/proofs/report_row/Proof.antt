@@ -42,7 +42,7 @@ returns c =
     let args = c .before .before .before .before .before .before .args in
     ap (λ (kind : Answer). drafted (draftAt (now (args .bytes)) (args .cursor)) (rowReport kind (args .t1) (commandOf (args .function) (args .page) (args .low) (now (args .value)))))
     (sym (c .enum-told .given .1) ∙ c .before .before .answered-with .ensures
-    ∙ ap (λ (n : ℕ). answer (args .function) n) (c .before .before .before .parameter-number .ensures))
+    ∙ ap (λ (n : ℕ). answer (args .t1 .unit) (args .function) n) (c .before .before .before .parameter-number .ensures))
 
 same-length : tie.Need-same-length
 same-length c = search needs
@@ -53,7 +53,7 @@ returns-2 c =
     c .before .before .write-unknown .ensures
     ∙ ap (λ (kind : Answer). drafted (draftAt (now (args .bytes)) (args .cursor)) (rowReport kind (args .t1) (commandOf (args .function) (args .page) (args .low) (now (args .value)))))
     (sym (c .before .before .before .before .enum-told2 .given .1) ∙ c .before .before .before .before .before .before .answered-with .ensures
-    ∙ ap (λ (n : ℕ). answer (args .function) n) (c .before .before .before .before .before .before .before .parameter-number .ensures))
+    ∙ ap (λ (n : ℕ). answer (args .t1 .unit) (args .function) n) (c .before .before .before .before .before .before .before .parameter-number .ensures))
 
 same-length-2 : tie.Need-same-length-2
 same-length-2 c = search needs
@@ -63,10 +63,10 @@ returns-3 c =
     let args = c .before .before .before .before .before .before .before .before .before .before .before .before .before .before .args in
     let named = c .before .before .before .before .before .before .before .before .before .before .before .parameter-number .ensures in
     c .before .before .write-value .ensures
-    ∙ ap (λ (value : List ℕ). drafted (draftAt (now (args .bytes)) (args .cursor)) (held (args .page) (args .low) value ∷ [])) (c .before .before .before .held .ensures ∙ ap (valueIn (args .t1 .bytes)) named)
+    ∙ ap (λ (value : List ℕ). drafted (draftAt (now (args .bytes)) (args .cursor)) (held (args .page) (args .low) value ∷ [])) (c .before .before .before .held .ensures ∙ ap (valueIn (args .t1 .bytes) (args .t1 .unit)) named)
     ∙ ap (λ (kind : Answer). drafted (draftAt (now (args .bytes)) (args .cursor)) (rowReport kind (args .t1) (commandOf (args .function) (args .page) (args .low) (now (args .value)))))
     (sym (c .before .before .before .before .before .before .before .before .enum-told3 .given .1) ∙ c .before .before .before .before .before .before .before .before .before .before .answered-with .ensures
-    ∙ ap (λ (n : ℕ). answer (args .function) n) named)
+    ∙ ap (λ (n : ℕ). answer (args .t1 .unit) (args .function) n) named)
 
 pub report-row-spec : {M : Type 1} → statement M
 report-row-spec =

@@ -4,7 +4,7 @@ use borrow.Author.Needs.{needs}
 use borrow.Author.Tests.{eq-eqb, ne-eqb}
 use denote.Ref.{now}
 use Rattle.store.proofs.Members.{no-switch, a-switch}
-use Rattle.store.specs.Layout.{setAt}
+use Rattle.rows.specs.Layout.{setAt}
 use Rattle.store.proofs.inverts.Statement.{statement}
 use Rattle.store.proofs.inverts.Tie as tie
 

@@ -3,7 +3,7 @@ use Prim.Native.Nat.{ℕ}
 use mathlib.Core.Path.{sym, ap, _∙_}
 use borrow.Author.Needs.{needs}
 use borrow.Author.Tests.{not-true, not-false, eq-eqb, ne-eqb}
-use Rattle.store.specs.Layout.{setAt, sizeOf}
+use Rattle.rows.specs.Layout.{setAt, sizeOf}
 use Rattle.store.proofs.judge.Statement.{statement}
 use Rattle.store.proofs.judge.Tie as tie
 

@@ -4,7 +4,7 @@ use mathlib.Core.Path.{sym, _∙_}
 use borrow.Author.Needs.{needs}
 use borrow.Author.Tests.{not-true, not-false}
 use Rattle.store.proofs.Neighbours.{not-number, at-the-end, to-the-next}
-use Rattle.store.specs.Sets.{leastAbove, greatestBelow}
+use Rattle.rows.specs.Sets.{leastAbove, greatestBelow}
 use Rattle.store.proofs.move_to_neighbour.Statement.{statement}
 use Rattle.store.proofs.move_to_neighbour.Tie as tie
 

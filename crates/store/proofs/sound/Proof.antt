@@ -6,29 +6,27 @@ use mathlib.Core.Path.{_≡_, refl, sym, ap, _∙_}
 use borrow.Author.Needs.{needs}
 use lib.ListN.{drop}
 use Rattle.store.proofs.Members.{sound-turn, sound-end}
-use Rattle.store.specs.Layout.{rowCount}
-use Rattle.store.specs.Rows.{rows}
+use Rattle.rows.specs.Layout.{rowCount}
+use Rattle.store.specs.Layout.{storeOf}
+use Rattle.rows.specs.Rows.{rows}
 use Rattle.store.specs.Sound.{sound, soundRows}
 use Rattle.store.proofs.sound.Statement.{statement}
 use Rattle.store.proofs.sound.Tie as tie
 
 abbrev Inv-loop : tie.InvT-loop
-Inv-loop bytes index₀ index = (index ≤ rowCount) × (sound (record { bytes = bytes }) ≡ soundRows (record { bytes = bytes }) (drop index rows))
+Inv-loop unit bytes index₀ index = (index ≤ rowCount) × (sound (storeOf unit bytes) ≡ soundRows (storeOf unit bytes) (drop index rows))
 
 abbrev μ-loop : tie.MeasureT-loop
-μ-loop bytes index₀ index = rowCount - index
+μ-loop unit bytes index₀ index = rowCount - index
 
 loop-holds : tie.Need-loop-holds Inv-loop μ-loop
 loop-holds c = (omega arith, refl)
 
-slice-aggregate-value-at : tie.Need-slice-aggregate-value-at Inv-loop μ-loop
-slice-aggregate-value-at c = search needs
+slice-aggregate-row-sound : tie.Need-slice-aggregate-row-sound Inv-loop μ-loop
+slice-aggregate-row-sound c = search needs
 
-value-at-requires : tie.Need-value-at-requires Inv-loop μ-loop
-value-at-requires c κs = search needs
-
-is-member-requires : tie.Need-is-member-requires Inv-loop μ-loop
-is-member-requires c κs = search needs
+row-sound-requires : tie.Need-row-sound-requires Inv-loop μ-loop
+row-sound-requires c κs = search needs
 
 add-index : tie.Need-add-index Inv-loop μ-loop
 add-index c = omega arith
@@ -38,24 +36,24 @@ loop-less c = omega arith
 
 loop-again : tie.Need-loop-again Inv-loop μ-loop
 loop-again c =
-    let at = c .before .before .before .before .before in
+    let at = c .before .before .before .before in
     let store = at .before .before .args .store in (
       omega arith,
       at .loop .inv .1
           ∙ sound-turn store (at .loop .index) (omega arith)
           ∙ ap (λ (b : Bool). b && soundRows store (drop (at .loop .index + 1) rows))
-          (rw (c .before .before .value-at .ensures) at (sym (c .before .is-member .ensures) ∙ c .if1 .taken)),
+          (sym (c .before .row-sound .ensures) ∙ c .if1 .taken),
     )
 
 returns : tie.Need-returns Inv-loop μ-loop
 returns c =
-    let at = c .before .before .before .before .before in
+    let at = c .before .before .before .before in
     let store = at .before .before .args .store in
     sym
     (at .loop .inv .1
     ∙ sound-turn store (at .loop .index) (omega arith)
     ∙ ap (λ (b : Bool). b && soundRows store (drop (at .loop .index + 1) rows))
-    (rw (c .before .before .value-at .ensures) at (sym (c .before .is-member .ensures) ∙ c .if1 .left)))
+    (sym (c .before .row-sound .ensures) ∙ c .if1 .left))
 
 returns-2 : tie.Need-returns-2 Inv-loop μ-loop
 returns-2 c = sym (c .before .loop .inv .1 ∙ sound-end (c .before .before .before .args .store) (c .before .loop .index) (c .loop-test .left))
@@ -67,9 +65,8 @@ sound-spec =
     Inv-loop
     μ-loop
     loop-holds
-    slice-aggregate-value-at
-    value-at-requires
-    is-member-requires
+    slice-aggregate-row-sound
+    row-sound-requires
     add-index
     loop-less
     loop-again

@@ -6,10 +6,9 @@ use denote.Ref.{now}
 use lib.ListN.{length, take}
 use lib.Seq.{length-take-le}
 use Rattle.framing.specs.Frame.{frame}
-use Rattle.model.specs.Record.{setUp, startBoard}
 use Rattle.model.specs.Step.{Request, requestOf}
 use Rattle.model.specs.declared.Answer.the-variants.{Refused}
-use Rattle.board.specs.Answering.{judged, judgedNumber}
+use Rattle.board.specs.Answering.{judged, judgedNumber, requestTo}
 use Rattle.board.proofs.Responding.{answered-by, judged-by-identity, leaves, leaves-as}
 use borrow.Author.Needs.{needs}
 use Rattle.board.proofs.packets.answer.Statement.{statement}
@@ -44,7 +43,7 @@ judged-right c =
     let args = c .before .before .before .before .before .before .before .before .before .before .args in
     let f = frame (now (args .id)) (now (args .password)) (args .function) (now (args .bytes)) in
     c .judge .ensures
-    ∙ ap (λ (size : ℕ). judged (requestOf (startBoard (setUp (args .board .id) (take size (args .board .password)) (args .board .mode))) f)) (c .before .before .before .to-usize .ensures)
+    ∙ ap (λ (size : ℕ). judged (requestTo (args .board .id) (take size (args .board .password)) (args .board .mode) f)) (c .before .before .before .to-usize .ensures)
     ∙ judged-by-identity (args .board) f
 
 enum-known-judged : tie.Need-enum-known-judged

@@ -5,10 +5,9 @@ use denote.Ref.{now}
 use lib.ListN.{drop}
 use Rattle.framing.specs.Frame.{frame}
 use Rattle.framing.specs.Refusal.{firstRefusal}
-use Rattle.model.specs.Record.{setUp, startBoard}
-use Rattle.model.specs.Step.{Request, requestOf, requestRefusals, discoveryWrites, wrongPassword}
+use Rattle.model.specs.Step.{Request, requestRefusals, discoveryWrites, wrongPassword}
 use Rattle.framing.specs.Refusal.{checked}
-use Rattle.board.specs.Answering.{requestChecks}
+use Rattle.board.specs.Answering.{requestTo, requestChecks}
 use Rattle.board.specs.declared.packets.Judged.the-variants.{Passed}
 use Rattle.framing.proofs.Refusals.{passed, goes-on, ends-here}
 use Rattle.board.proofs.Responding.{judged-as, own-password, password-told, reads-told}
@@ -19,7 +18,7 @@ use Rattle.board.proofs.packets.judge.Tie as tie
 abbrev asked : tie.After-check-address → Request
 asked c =
     let args = c .before .before .before .before .before .before .args in
-    requestOf (startBoard (setUp (now (args .own)) (now (args .secret)) (args .mode))) (frame (now (args .id)) (now (args .password)) (args .function) (now (args .bytes)))
+    requestTo (now (args .own)) (now (args .secret)) (args .mode) (frame (now (args .id)) (now (args .password)) (args .function) (now (args .bytes)))
 
 -- the first checks do not refuse
 abbrev Unrefused : ℕ → Request → Type 0

@@ -82,30 +82,36 @@ returns-4 c =
     let board = c .before .before .before .before .before .before .before .before .before .before .before .before .before .before .before .args .board in
     sym (ap (λ (right : Bool). checked (not right)) (unsound-mode board (not-true _ (failed _ (c .before .before .check-mode .ensures) (c .enum-told6 .given .1)))))
 
-sound-requires : tie.Need-sound-requires
-sound-requires c κs = search needs
+check-entries-requires : tie.Need-check-entries-requires
+check-entries-requires c κs = search needs
+
+enum-told-7 : tie.Need-enum-told-7
+enum-told-7 c = search needs
+
+enum-told-8 : tie.Need-enum-told-8
+enum-told-8 c = search needs
 
 returns-5 : tie.Need-returns-5
 returns-5 c =
-    let board = c .before .before .before .before .before .before .before .before .before .before .before .before .before .before .before .before .before .before .args .board in
-    sym (ap (λ (right : Bool). checked (not right)) (unsound-entries board (sym (c .before .sound .ensures) ∙ not-true _ (c .if2 .taken))))
+    let board = c .before .before .before .before .before .before .before .before .before .before .before .before .before .before .before .before .before .before .before .args .board in
+    sym (ap (λ (right : Bool). checked (not right)) (unsound-entries board (not-true _ (failed _ (c .before .before .check-entries .ensures) (c .enum-told8 .given .1)))))
 
 check-rows-requires : tie.Need-check-rows-requires
 check-rows-requires c κs = search needs
 
 returns-6 : tie.Need-returns-6
 returns-6 c =
-    let board = c .before .before .before .before .before .before .before .before .before .before .before .before .before .before .before .before .before .before .before .args .board in
-    let size = c .before .before .before .before .before .before .before .before .before .before .before .before .before .to-usize .result in
+    let board = c .before .before .before .before .before .before .before .before .before .before .before .before .before .before .before .before .before .before .before .before .args .board in
+    let size = c .before .before .before .before .before .before .before .before .before .before .before .before .before .before .to-usize .result in
     let sized : Sized (board .parameters) = record { store = search needs; schedule = search (needs, unmapped) } in
-    let short : board .size ≤ 8 = omega (arith, c .before .before .before .before .before .before .before .before .before .before .before .before .before .to-usize .ensures) in
-    let right = not-false _ (passed _ (c .before .before .before .before .before .before .before .before .before .check-new-password .ensures) (c .before .before .before .before .before .before .before .enum-told3 .given .1)) in
+    let short : board .size ≤ 8 = omega (arith, c .before .before .before .before .before .before .before .before .before .before .before .before .before .before .to-usize .ensures) in
+    let right = not-false _ (passed _ (c .before .before .before .before .before .before .before .before .before .before .check-new-password .ensures) (c .before .before .before .before .before .before .before .before .enum-told3 .given .1)) in
     let characters = both-true (leb (length (take size (board .password))) 8) _ right .1 in
     c .check-rows .ensures
-    ∙ sym (ap (λ (right : Bool). checked (not right)) (sound-rows board (not-false _ (passed _ (c .before .before .before .before .before .before .before .before .before .before .before .before .before .before .before .before .check-id .ensures) (c .before .before .before .before .before .before .before .before .before .before .before .before .before .before .enum-told .given .1))) (le-leb _ _ short)
-    (ap (λ (n : ℕ). allAlphanumeric (take n (board .password))) (sym (c .before .before .before .before .before .before .before .before .before .before .before .before .before .to-usize .ensures)) ∙ characters)
-    (not-false _ (passed _ (c .before .before .before .before .before .before .check-mode .ensures) (c .before .before .before .before .enum-told5 .given .1)))
-    sized (sym (c .before .before .sound .ensures) ∙ not-false _ (c .before .if2 .left))))
+    ∙ sym (ap (λ (right : Bool). checked (not right)) (sound-rows board (not-false _ (passed _ (c .before .before .before .before .before .before .before .before .before .before .before .before .before .before .before .before .before .check-id .ensures) (c .before .before .before .before .before .before .before .before .before .before .before .before .before .before .before .enum-told .given .1))) (le-leb _ _ short)
+    (ap (λ (n : ℕ). allAlphanumeric (take n (board .password))) (sym (c .before .before .before .before .before .before .before .before .before .before .before .before .before .before .to-usize .ensures)) ∙ characters)
+    (not-false _ (passed _ (c .before .before .before .before .before .before .before .check-mode .ensures) (c .before .before .before .before .before .enum-told5 .given .1)))
+    sized (not-false _ (passed _ (c .before .before .before .check-entries .ensures) (c .before .enum-told7 .given .1)))))
 
 pub check-record-spec : {M : Type 1} → statement M
 check-record-spec =
@@ -128,7 +134,9 @@ check-record-spec =
     enum-told-5
     enum-told-6
     returns-4
-    sound-requires
+    check-entries-requires
+    enum-told-7
+    enum-told-8
     returns-5
     check-rows-requires
     returns-6)

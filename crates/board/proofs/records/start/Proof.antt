@@ -17,8 +17,8 @@ padded-id-requires c κs = search needs
 padded-password-requires : tie.Need-padded-password-requires
 padded-password-requires c κs = search needs
 
-cast-t7 : tie.Need-cast-t7
-cast-t7 c = search needs
+cast-t8 : tie.Need-cast-t8
+cast-t8 c = search needs
 
 start-parameters-requires : tie.Need-start-parameters-requires
 start-parameters-requires c κs = search needs
@@ -32,10 +32,10 @@ returns c =
       size = length (now (args .password));
       mode = args .mode;
       parameters =
-          (c .start-parameters .ensures ∙ ap (λ (id : List ℕ). parametersOf (startRows id) startEntries) (c .before .before .padded-id .ensures)) i;
+          (c .start-parameters .ensures ∙ ap (λ (id : List ℕ). parametersOf (startRows id (args .unit)) startEntries) (c .before .before .padded-id .ensures)) i;
     }
 
 pub start-spec : {M : Type 1} → statement M
 start-spec =
     tie.close
-    (tie.spec padded-id-requires padded-password-requires cast-t7 start-parameters-requires returns)
+    (tie.spec padded-id-requires padded-password-requires cast-t8 start-parameters-requires returns)

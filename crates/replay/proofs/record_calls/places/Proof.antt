@@ -3,7 +3,7 @@ use Prim.Native.Nat.{_-_}
 use mathlib.Core.Path.{_≡_}
 use lib.ListN.{length}
 use borrow.Author.Needs.{needs}
-use Rattle.store.specs.Layout.{storeSize}
+use Rattle.rows.specs.Layout.{storeSize}
 use Rattle.replay.proofs.record_calls.places.Statement.{statement}
 use Rattle.replay.proofs.record_calls.places.Tie as tie
 

@@ -7,10 +7,10 @@ use Rattle.replay.proofs.record_calls.put_items.Statement.{statement}
 use Rattle.replay.proofs.record_calls.put_items.Tie as tie
 
 abbrev Inv-loop : tie.InvT-loop
-Inv-loop text₀ at bytes schedule end₀ item₀ text end item = length text ≡ length text₀
+Inv-loop text₀ at bytes unit schedule end₀ item₀ text end item = length text ≡ length text₀
 
 abbrev μ-loop : tie.MeasureT-loop
-μ-loop text₀ at bytes schedule end₀ item₀ text end item = 0x051C - item
+μ-loop text₀ at bytes unit schedule end₀ item₀ text end item = 0x051C - item
 
 loop-holds : tie.Need-loop-holds Inv-loop μ-loop
 loop-holds c = search needs

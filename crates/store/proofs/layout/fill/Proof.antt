@@ -6,7 +6,7 @@ use borrow.Author.Needs.{needs}
 use denote.Ref.{now}
 use lib.ListN.{length, replicate}
 use Rattle.store.proofs.Slots.{kept-length, fill-eq}
-use Rattle.store.specs.Layout.{storeSize, longest}
+use Rattle.rows.specs.Layout.{storeSize, longest}
 use Rattle.store.proofs.layout.fill.Statement.{statement}
 use Rattle.store.proofs.layout.fill.Tie as tie
 

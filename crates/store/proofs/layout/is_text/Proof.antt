@@ -3,8 +3,8 @@ use Prim.Native.Nat.{ℕ}
 use mathlib.Core.Path.{ap, _∙_}
 use borrow.Author.Needs.{needs}
 use lib.Dec.{eqb}
-use Rattle.store.proofs.SetColumns.{text-kind}
-use Rattle.store.specs.Layout.{setAt}
+use Rattle.rows.proofs.SetColumns.{text-kind}
+use Rattle.rows.specs.Layout.{setAt}
 use Rattle.store.proofs.layout.is_text.Statement.{statement}
 use Rattle.store.proofs.layout.is_text.Tie as tie
 

@@ -4,7 +4,7 @@ use mathlib.Core.Path.{sym, _∙_}
 use borrow.Author.Needs.{needs}
 use denote.Ref.{now}
 use Rattle.store.proofs.Slots.{place-within, value-plain, value-text}
-use Rattle.store.specs.Layout.{setAt, placeAt}
+use Rattle.rows.specs.Layout.{setAt, placeAt}
 use Rattle.store.proofs.layout.value_at.Statement.{statement}
 use Rattle.store.proofs.layout.value_at.Tie as tie
 

@@ -5,8 +5,8 @@ use borrow.Author.Needs.{needs}
 use denote.Ref.{now}
 use lib.ListN.{length}
 use Rattle.store.proofs.Slots.{kept-length, size-width, place-within, text-within, stored-plain, stored-text}
-use Rattle.store.proofs.Tables.{size-most}
-use Rattle.store.specs.Layout.{storeSize, setAt}
+use Rattle.rows.proofs.Rule.{size-most}
+use Rattle.rows.specs.Layout.{storeSize, setAt}
 use Rattle.store.proofs.layout.with_value_at.Statement.{statement}
 use Rattle.store.proofs.layout.with_value_at.Tie as tie
 
