@@ -1,5 +1,5 @@
 /*
- * A main loop for the firmware's author: one board record, a packet in, its answer out, a measurement now and then.
+ * A main loop for the firmware's author: one board record, here of a Micra, a packet in, its answer out, a measurement now and then.
  * A fixed list of packets stands in for the radio, and what would be sent is printed.
  *
  *   make -C examples && target/examples/main_loop
@@ -87,7 +87,7 @@ int main(void)
 {
     static const uint8_t id[] = "002D6E1B34565815";
     static const uint8_t password[] = "1111";
-    udgornwy_result result = udgornwy_set_up(id, sizeof id - 1, password, sizeof password - 1, UDGORNWY_CLIENT);
+    udgornwy_result result = udgornwy_set_up(id, sizeof id - 1, password, sizeof password - 1, UDGORNWY_CLIENT, UDGORNWY_MICRA);
     if (result.refusal != 0) {
         printf("set-up refused: %u\n", result.refusal);
         return EXIT_FAILURE;

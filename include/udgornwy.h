@@ -1,6 +1,6 @@
 /*
- * Udgornwy: the controller board of a Micra 100 WiFi unit, the tool that writes its requests and reads its responses, captures of their
- * packets, and tables of what captures report.
+ * Udgornwy: the controller board of a Micra 100 WiFi or a VENTO Expert unit, the tool that writes its requests and reads its responses,
+ * captures of their packets, and tables of what captures report.
  *
  * For C (C11) and C++ (C++11). Link target/staticlib/libfirmware.a, which `rt staticlib firmware` writes, and for the calls on captures
  * and tables target/staticlib/libdataset.a, which `rt staticlib dataset` writes; with --gc-sections only what is called comes along. They allocate
@@ -33,18 +33,22 @@ enum {
     UDGORNWY_PORT = 4000,           /* the board's UDP port */
     UDGORNWY_ID = 16,               /* bytes of an ID */
     UDGORNWY_PASSWORD = 8,          /* bytes of the longest password */
-    UDGORNWY_STORE = 227,           /* bytes of the rows' values */
+    UDGORNWY_STORE = 227,           /* bytes of the rows' values; those of a VENTO Expert take fewer */
     UDGORNWY_DAYS = 7,              /* of the weekly schedule, Monday first */
     UDGORNWY_PERIODS = 4,           /* of a day */
     UDGORNWY_ENTRY = 4,             /* bytes of a period */
-    UDGORNWY_BOARD = UDGORNWY_ID + UDGORNWY_PASSWORD + 2 + UDGORNWY_STORE + UDGORNWY_DAYS * UDGORNWY_PERIODS * UDGORNWY_ENTRY,
+    UDGORNWY_BOARD = UDGORNWY_ID + UDGORNWY_PASSWORD + 3 + UDGORNWY_STORE + UDGORNWY_DAYS * UDGORNWY_PERIODS * UDGORNWY_ENTRY,
     UDGORNWY_LONGEST_PACKET = 256,  /* also the room that a response and a request need */
     UDGORNWY_LONGEST_LISTING = 1753,
     UDGORNWY_CLIENT = 1,            /* the modes */
-    UDGORNWY_ACCESS_POINT = 2
+    UDGORNWY_ACCESS_POINT = 2,
+    UDGORNWY_MICRA = 2,             /* the unit types: Micra 100 WiFi */
+    UDGORNWY_EXPERT_A50 = 3,        /* VENTO Expert A50-1, A85-1 and A100-1 */
+    UDGORNWY_EXPERT_DUO = 4,        /* VENTO Expert Duo A30-1 */
+    UDGORNWY_EXPERT_A30 = 5         /* VENTO Expert A30 */
 };
 
-/* A period of the weekly schedule, as parameter 0x0077 has it after its day and its period. */
+/* A period of the weekly schedule, as parameter 0x0077 of a Micra has it after its day and its period. */
 typedef struct {
     uint8_t speed;        /* 1 to 5, 0 standby */
     uint8_t temperature;  /* 15 to 30 whole degrees, 0 ventilation only */
@@ -60,8 +64,9 @@ typedef struct {
     uint8_t password[UDGORNWY_PASSWORD]; /* the first `size` bytes */
     uint8_t size;
     uint8_t mode;                        /* the mode in force */
+    uint8_t unit;                        /* the unit type: which rows there are, and where they stand in the store */
     uint8_t store[UDGORNWY_STORE];
-    udgornwy_entry schedule[UDGORNWY_DAYS][UDGORNWY_PERIODS];
+    udgornwy_entry schedule[UDGORNWY_DAYS][UDGORNWY_PERIODS]; /* of a Micra; on the other types any bytes, which no call looks at */
 } udgornwy_board;
 
 /* What set-up and a measurement answer: keep the board also where they are refused. */
@@ -93,6 +98,8 @@ typedef struct {
 /* The library lays its structs out so: bytes without gaps, then a number at the next place that its size divides. */
 UDGORNWY_ASSERT(sizeof(udgornwy_entry) == UDGORNWY_ENTRY, "an entry has no gaps");
 UDGORNWY_ASSERT(sizeof(udgornwy_board) == UDGORNWY_BOARD, "a record has no gaps");
+UDGORNWY_ASSERT(offsetof(udgornwy_board, unit) == UDGORNWY_ID + UDGORNWY_PASSWORD + 2, "the unit type follows the mode");
+UDGORNWY_ASSERT(offsetof(udgornwy_board, store) == UDGORNWY_ID + UDGORNWY_PASSWORD + 3, "the rows follow the unit type");
 UDGORNWY_ASSERT(offsetof(udgornwy_result, refusal) == (UDGORNWY_BOARD + 1) / 2 * 2, "the refusal stands at the next even place");
 UDGORNWY_ASSERT(sizeof(udgornwy_result) == (UDGORNWY_BOARD + 1) / 2 * 2 + 2, "nothing follows the refusal");
 UDGORNWY_ASSERT(offsetof(udgornwy_reply, length) == sizeof(size_t), "the refusal takes the room of a length");
@@ -117,21 +124,24 @@ udgornwy_parts udgornwy_parse(const uint8_t *packet, size_t packet_length);
 /* ---- The board ---- */
 
 /*
- * Makes the start record of an ID, a password and a mode.
+ * Makes the start record of an ID, a password, a mode and a unit type.
  * Refusals:
  *   20  the ID has not 16 bytes, or is DEFAULT_DEVICEID
  *   21  the password has more than 8 bytes, or one that is not of 0-9, a-z, A-Z
  *   22  the mode is neither 1 (client) nor 2 (access point)
- * The board is then that of a zero ID, an empty password and mode client.
+ *   23  the unit type is none of 2 (Micra), 3, 4 and 5 (VENTO Expert)
+ * The board is then that of a zero ID, an empty password, mode client and unit type 2.
  */
-udgornwy_result udgornwy_set_up(const uint8_t *id, size_t id_length, const uint8_t *password, size_t password_length, uint8_t mode);
+udgornwy_result udgornwy_set_up(const uint8_t *id, size_t id_length, const uint8_t *password, size_t password_length, uint8_t mode,
+                                uint8_t unit);
 
 /*
  * Takes one UDP payload of any length, makes the changes that its commands call for in the record, and writes the response, if there is
  * one.
  * response needs 256 bytes. Send its first `length` bytes to the packet's sender; with length 0, refused or not, send nothing.
  * Refusals:
- *   70  the record is not one that set-up and calls leave
+ *   70  the record is not one that set-up and calls leave: its ID, password, mode or unit type is one that set-up refuses, a row of the unit
+ *       type or an entry of a Micra's schedule is outside its set, or 0x007C or 0x00B9 is not the record's own ID or unit type
  *    1  response under 256 bytes
  *    2 to 6  as for udgornwy_parse
  *    7  ID is neither the board's nor DEFAULT_DEVICEID
@@ -144,11 +154,12 @@ udgornwy_result udgornwy_set_up(const uint8_t *id, size_t id_length, const uint8
 udgornwy_reply udgornwy_packet(udgornwy_board *board, const uint8_t *packet, size_t packet_length, uint8_t *response, size_t response_length);
 
 /*
- * The record with a measured value in its read-only row. A measured temperature is in signed tenths of a degree, two bytes: -5.0 degrees
- * is CE FF.
+ * The record with a measured value in a read-only row of its unit type. A measured temperature of a Micra is in signed tenths of a degree,
+ * two bytes: -5.0 degrees is CE FF.
  * Refusals, with the board that was given:
- *   70  the record is not one that set-up and calls leave
- *   30  the number is no read-only row, or is 0x007C or 0x00B9
+ *   70  the record is not one that set-up and calls leave: its ID, password, mode or unit type is one that set-up refuses, a row of the unit
+ *       type or an entry of a Micra's schedule is outside its set, or 0x007C or 0x00B9 is not the record's own ID or unit type
+ *   30  the number is no read-only row of the unit type, or is 0x007C or 0x00B9
  *   31  the value has not the row's length
  */
 udgornwy_result udgornwy_measure(udgornwy_board board, uint16_t number, const uint8_t *value, size_t value_length);
@@ -158,7 +169,7 @@ udgornwy_result udgornwy_measure(udgornwy_board board, uint16_t number, const ui
 /*
  * Writes the request packet of a list of commands. Command i has function functions[i] (1 read, 2 write, 3 write and report, 4 raise,
  * 5 lower), parameter numbers[i] and a value of lengths[i] bytes; the values stand one after the other. The three counts are the same.
- * A read of the weekly schedule, 0x0077, has a value: a day (1 to 7) and a period (1 to 4).
+ * A read of a Micra's weekly schedule, 0x0077, has a value: a day (1 to 7) and a period (1 to 4).
  * buffer needs 256 bytes. The ID may be DEFAULT_DEVICEID.
  * Refusals:
  *    1  buffer under 256 bytes

@@ -22,7 +22,7 @@ enum { STACK = 65536, TARGET = 16384, ROOM = 8192 };
 static udgornwy_board board;
 static uint8_t first[ROOM], second[ROOM], response[1024];
 static size_t first_length, second_length, response_length;
-static uint8_t mode;
+static uint8_t mode, unit;
 static uint16_t number, refusal;
 
 static void call_nothing(void)
@@ -31,7 +31,7 @@ static void call_nothing(void)
 
 static void call_set_up(void)
 {
-    udgornwy_result result = udgornwy_set_up(first, first_length, second, second_length, mode);
+    udgornwy_result result = udgornwy_set_up(first, first_length, second, second_length, mode, unit);
     board = result.board;
     refusal = result.refusal;
 }
@@ -147,10 +147,12 @@ static void (*read_call(char *line))(void)
     const char *one = strtok(NULL, " \n");
     const char *two = strtok(NULL, " \n");
     const char *three = strtok(NULL, " \n");
+    const char *four = strtok(NULL, " \n");
     if (word == NULL || one == NULL || two == NULL)
         return NULL;
     if (strcmp(word, "setup") == 0 && three != NULL) {
         mode = (uint8_t)strtoul(three, NULL, 10);
+        unit = four == NULL ? UDGORNWY_MICRA : (uint8_t)strtoul(four, NULL, 10);
         return read_bytes(one, first, &first_length) && read_bytes(two, second, &second_length) ? call_set_up : NULL;
     }
     if (strcmp(word, "packet") == 0) {
@@ -220,7 +222,7 @@ static void make_packet(const uint8_t *id, const char *repeated, const char *las
 
 static size_t forced(const char *what, const uint8_t *id, const char *repeated, const char *last)
 {
-    board = udgornwy_set_up(own_id, UDGORNWY_ID, second, 0, UDGORNWY_CLIENT).board;
+    board = udgornwy_set_up(own_id, UDGORNWY_ID, second, 0, UDGORNWY_CLIENT, UDGORNWY_MICRA).board;
     response_length = UDGORNWY_LONGEST_PACKET;
     make_packet(id, repeated, last);
     size_t bytes = depth(call_packet);
@@ -241,7 +243,7 @@ int main(void)
 {
     struct deepest set_ups = {0, 0}, packets = {0, 0}, measurements = {0, 0};
     make_stack();
-    board = udgornwy_set_up(second, 0, second, 0, 0).board;
+    board = udgornwy_set_up(second, 0, second, 0, 0, 0).board;
     run_list(&set_ups, &packets, &measurements);
     if (packets.calls == 0) {
         fprintf(stderr, "memory: no packet on standard input\n");

@@ -1,10 +1,11 @@
 //! Which response is the answer to a request: the one that reports what the commands ask for, number by number in their order, and
 //! nothing else. A board does not say which request it answers, so this is all that tells a late or a foreign answer from the right one.
 
-use crate::entry::{self, Place};
+use crate::entry::Place;
 use crate::ffi::{Command, SILENT_WRITE};
 use crate::report::Report;
 use crate::rows;
+use crate::unit_type::UnitType;
 
 /// The commands that a board answers with a report, whether it knows their parameter or not.
 pub fn reported(commands: &[Command]) -> impl Iterator<Item = &Command> {
@@ -13,17 +14,17 @@ pub fn reported(commands: &[Command]) -> impl Iterator<Item = &Command> {
         .filter(|command| command.function != SILENT_WRITE)
 }
 
-/// Whether these reports answer the commands; if not, why.
-pub fn check(commands: &[Command], reports: &[Report]) -> Result<(), String> {
+/// Whether these reports answer the commands to a board of the unit type; if not, why.
+pub fn check(unit_type: UnitType, commands: &[Command], reports: &[Report]) -> Result<(), String> {
     let (asked, came) = (reported(commands).count(), reports.len());
     if asked != came {
         return Err(format!("has {came} report(s), not {asked}"));
     }
     let mut pairs = reported(commands).zip(reports);
-    pairs.try_for_each(|(command, report)| check_one(command, report))
+    pairs.try_for_each(|(command, report)| check_one(unit_type, command, report))
 }
 
-fn check_one(command: &Command, report: &Report) -> Result<(), String> {
+fn check_one(unit_type: UnitType, command: &Command, report: &Report) -> Result<(), String> {
     let Report { number, value } = report;
     if *number != command.number {
         let asked = command.number;
@@ -34,10 +35,14 @@ fn check_one(command: &Command, report: &Report) -> Result<(), String> {
         return Ok(());
     };
     let length = value.len();
-    if rows::find(*number).is_some_and(|row| !row.size.range().contains(&length)) {
-        return Err(format!("reports 0x{number:04X} with {length} bytes"));
+    let row = rows::find(unit_type, *number);
+    if let Some(row) = row.filter(|row| !row.size.range().contains(&length)) {
+        let size = row.size;
+        return Err(format!(
+            "reports 0x{number:04X} with {length} bytes, not the {size} of {unit_type}"
+        ));
     }
-    if *number == entry::NUMBER && Place::of(value) != place_of(command) {
+    if rows::is_schedule(unit_type, *number) && Place::of(value) != place_of(command) {
         return Err(String::from("reports another entry of the schedule"));
     }
     Ok(())
@@ -52,6 +57,11 @@ fn place_of(command: &Command) -> Option<Place> {
 mod tests {
     use super::*;
     use crate::ffi::READ;
+
+    /// By a Micra.
+    fn check(commands: &[Command], reports: &[Report]) -> Result<(), String> {
+        super::check(UnitType::Micra, commands, reports)
+    }
 
     fn report(number: u16, value: &[u8]) -> Report {
         Report::new(number, Some(value))
@@ -116,6 +126,33 @@ mod tests {
             assert!(right.iter().all(|length| answers(*length)), "{number}");
             assert!(!wrong.iter().any(|length| answers(*length)), "{number}");
         }
+    }
+
+    #[test]
+    fn lengths_go_by_the_unit_type() {
+        for (number, lengths) in [
+            (0x0064, [&[4][..], &[3], &[3], &[3]]),
+            (0x0063, [&[2], &[2], &[1, 2, 9], &[1, 2, 9]]),
+            (0x002D, [&[1, 2, 9], &[1], &[1], &[1, 2, 9]]),
+            (0x007E, [&[1, 2, 9], &[4], &[4], &[4]]),
+            (0x0302, [&[1, 2, 9], &[2], &[2], &[2]]),
+            (0x00B9, [&[2], &[2], &[2], &[2]]),
+        ] {
+            for (unit_type, right) in UnitType::ALL.into_iter().zip(lengths) {
+                for length in 1..=9 {
+                    let reports = [report(number, &vec![0; length])];
+                    let commands = [Command::new(READ, number, &[])];
+                    let answers = super::check(unit_type, &commands, &reports).is_ok();
+                    let is_any = right.len() > 1;
+                    assert_eq!(answers, is_any || right.contains(&length), "{number}");
+                }
+            }
+        }
+        let reports = [report(0x0064, &[0; 4])];
+        let commands = [Command::new(READ, 0x0064, &[])];
+        let reason = "reports 0x0064 with 4 bytes, not the 3 of type 4 (VENTO Expert Duo A30-1)";
+        let answer = super::check(UnitType::ExpertDuo, &commands, &reports);
+        assert_eq!(answer, Err(String::from(reason)));
     }
 
     #[test]

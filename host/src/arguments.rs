@@ -11,10 +11,11 @@ use crate::format::Format;
 use crate::help;
 use crate::options::{Form, Options, END};
 use crate::questions;
-use crate::request::{Kind, Raw, Request};
+use crate::request::{Kind, Question, Raw, Request};
 use crate::rows;
 use crate::server::Settings;
 use crate::target;
+use crate::unit_type::UnitType;
 use crate::values;
 
 #[derive(Debug)]
@@ -32,8 +33,20 @@ pub enum Task {
 }
 
 const BOARD: Form = Form {
-    valued: &["--id", "--password", "--mode", "--listen", "--measure"],
+    valued: &[
+        "--id",
+        "--password",
+        "--mode",
+        "--type",
+        "--listen",
+        "--measure",
+    ],
     flags: &["--verbose"],
+};
+
+const ROWS: Form = Form {
+    valued: &["--type"],
+    flags: &[],
 };
 
 const REQUEST: Form = Form {
@@ -41,6 +54,7 @@ const REQUEST: Form = Form {
         "--host",
         "--id",
         "--password",
+        "--type",
         "--boards",
         "--board",
         "-t",
@@ -93,8 +107,8 @@ pub fn parse(arguments: &[String]) -> Result<Task, String> {
         "board" => parse_board(rest),
         "get" => parse_request(rest, RETRIES, questions::reads),
         "set" => parse_request(rest, NO_RETRIES, questions::writes),
-        "raise" => parse_request(rest, NO_RETRIES, |words| questions::steps(RAISE, words)),
-        "lower" => parse_request(rest, NO_RETRIES, |words| questions::steps(LOWER, words)),
+        "raise" => parse_request(rest, NO_RETRIES, steps(RAISE)),
+        "lower" => parse_request(rest, NO_RETRIES, steps(LOWER)),
         "schedule" => parse_schedule(rest),
         "search" => parse_search(rest),
         "summary" => parse_file(rest, Task::Summary),
@@ -117,10 +131,11 @@ fn parse_help(arguments: &[String]) -> Result<Task, String> {
 }
 
 fn parse_rows(arguments: &[String]) -> Result<Task, String> {
-    match arguments {
-        [] => Ok(Task::Print(rows::table())),
-        [word, ..] => Err(unwanted(word)),
+    let options = Options::parse(arguments, &ROWS)?;
+    if let Some(word) = options.words().first() {
+        return Err(unwanted(word));
     }
+    Ok(Task::Print(rows::table(parse_type(&options)?)))
 }
 
 fn parse_board(arguments: &[String]) -> Result<Task, String> {
@@ -128,40 +143,56 @@ fn parse_board(arguments: &[String]) -> Result<Task, String> {
     if let Some(word) = options.words().first() {
         return Err(unwanted(word));
     }
+    let unit_type = parse_type(&options)?;
     let measured = options
         .values_of("--measure")
-        .map(values::parse_measurement);
+        .map(|text| values::parse_measurement(unit_type, text));
     Ok(Task::Board(Settings {
         id: boards::parse_id(options.needed("--id")?)?,
         password: options.needed("--password")?.as_bytes().to_vec(),
         mode: parse_mode(options.needed("--mode")?)?,
+        unit_type,
         listen: parse_listen(options.value("--listen")?.unwrap_or(LISTEN))?,
         measured: measured.collect::<Result<_, _>>()?,
         verbose: options.has("--verbose"),
     }))
 }
 
+/// What some words ask a board of a unit type, or what is wrong with them.
+type Commands = Result<Vec<Command>, String>;
+
+fn steps(function: u8) -> impl Fn(UnitType, &[&str]) -> Commands {
+    move |unit_type, words| questions::steps(function, unit_type, words)
+}
+
 fn parse_request(
     arguments: &[String],
     retries: u32,
-    commands: impl Fn(&[&str]) -> Result<Vec<Command>, String>,
+    commands: impl Fn(UnitType, &[&str]) -> Commands,
 ) -> Result<Task, String> {
     let options = Options::parse(arguments, &REQUEST)?;
-    if options.words().is_empty() {
+    let words = options.words();
+    if words.is_empty() {
         return Err(String::from("there is no row"));
     }
-    let commands = commands(&options.words())?;
+    let commands = |unit_type| commands(unit_type, &words);
     request(&options, Kind::Rows, commands, retries)
 }
 
 fn parse_schedule(arguments: &[String]) -> Result<Task, String> {
     let options = Options::parse(arguments, &REQUEST)?;
-    let (commands, retries) = match options.words()[..] {
-        ["get", ref words @ ..] => (questions::entry_reads(words)?, RETRIES),
-        ["set", ref words @ ..] => (questions::entry_write(words)?, NO_RETRIES),
-        _ => return Err(String::from("schedule takes get or set")),
-    };
-    request(&options, Kind::Schedule, commands, retries)
+    let words = options.words();
+    match words[..] {
+        ["get", ref words @ ..] => {
+            let commands = |unit_type| questions::entry_reads(unit_type, words);
+            request(&options, Kind::Schedule, commands, RETRIES)
+        }
+        ["set", ref words @ ..] => {
+            let commands = |unit_type| questions::entry_write(unit_type, words);
+            request(&options, Kind::Schedule, commands, NO_RETRIES)
+        }
+        _ => Err(String::from("schedule takes get or set")),
+    }
 }
 
 /// A search asks every board for its ID and its unit type.
@@ -170,7 +201,7 @@ fn parse_search(arguments: &[String]) -> Result<Task, String> {
     if let Some(word) = options.words().first() {
         return Err(unwanted(word));
     }
-    let commands = vec![questions::read(0x007C), questions::read(0x00B9)];
+    let commands = |_| Ok(vec![questions::read(0x007C), questions::read(0x00B9)]);
     request(&options, Kind::Search, commands, RETRIES)
 }
 
@@ -209,18 +240,18 @@ fn parse_source(text: &str) -> Source {
 fn request(
     options: &Options,
     kind: Kind,
-    commands: Vec<Command>,
+    commands: impl Fn(UnitType) -> Commands,
     retries: u32,
 ) -> Result<Task, String> {
     let (units, warning) = match kind {
         Kind::Search => (vec![searched(options)?], None),
         _ => units(options)?,
     };
+    let questions = units.into_iter().map(|unit| question(unit, &commands));
     let request = Request {
-        units,
+        questions: questions.collect::<Result<_, _>>()?,
         warning,
         kind,
-        commands,
         limit: parse_limit(options.value("-t")?)?,
         retries: parse_retries(options.value("-r")?, retries)?,
         dump: options.has("-d"),
@@ -231,13 +262,23 @@ fn request(
     Ok(Task::Request(request))
 }
 
-/// What a search asks. Its password is not compared, so it has none.
+/// What a board is asked; an error says which board it is about, where it has a name.
+fn question(unit: Unit, commands: impl Fn(UnitType) -> Commands) -> Result<Question, String> {
+    match (commands(unit.unit_type), &unit.name) {
+        (Ok(commands), _) => Ok(Question { unit, commands }),
+        (Err(error), Some(name)) => Err(format!("{name}: {error}")),
+        (Err(error), None) => Err(error),
+    }
+}
+
+/// What a search asks. Its unit type is what it asks for, so it goes by any; its password is not compared, so it has none.
 fn searched(options: &Options) -> Result<Unit, String> {
     Ok(Unit {
         name: None,
         host: options.needed("--host")?.to_string(),
         id: DEFAULT_ID.to_vec(),
         password: Vec::new(),
+        unit_type: UnitType::default(),
     })
 }
 
@@ -253,7 +294,7 @@ fn units(options: &Options) -> Result<(Vec<Unit>, Option<String>), String> {
     if names.is_empty() {
         return Err(String::from("--boards needs --board NAME, or --board all"));
     }
-    for name in ["--host", "--id", "--password"] {
+    for name in ["--host", "--id", "--password", "--type"] {
         if options.value(name)?.is_some() {
             return Err(format!(
                 "{name} is not wanted: --board has it from the file"
@@ -272,6 +313,7 @@ fn named(options: &Options) -> Result<Unit, String> {
         host: host.to_string(),
         id: boards::parse_id(options.needed("--id")?)?,
         password: options.needed("--password")?.as_bytes().to_vec(),
+        unit_type: parse_type(options)?,
     })
 }
 
@@ -304,6 +346,16 @@ fn parse_mode(text: &str) -> Result<u8, String> {
         "ap" => Ok(2),
         _ => Err(format!("the mode `{text}` is neither client nor ap")),
     }
+}
+
+/// A unit is a Micra where nothing is said.
+fn parse_type(options: &Options) -> Result<UnitType, String> {
+    let Some(text) = options.value("--type")? else {
+        return Ok(UnitType::default());
+    };
+    UnitType::parse(text).ok_or_else(|| {
+        format!("--type takes 2 (Micra 100 WiFi) or 3, 4 or 5 (VENTO Expert), not `{text}`")
+    })
 }
 
 fn parse_listen(text: &str) -> Result<SocketAddr, String> {
@@ -362,15 +414,14 @@ mod tests {
             ("lower", &[1, 5, 1, 5], 0),
         ] {
             let request = request(&format!("{command} {IDENTITY} speed-mode 0x0063"));
-            let asked: Vec<u8> = request.commands.iter().map(|one| one.function).collect();
+            let commands = &request.questions[0].commands;
+            let asked: Vec<u8> = commands.iter().map(|one| one.function).collect();
             assert_eq!(asked, functions);
             assert_eq!((request.retries, request.limit), (retries, LIMIT));
         }
         let set = request(&format!("set {IDENTITY} -t 0.5 -r 2 0x0063=70"));
-        assert_eq!(
-            (set.commands[0].function, &set.commands[0].value[..]),
-            (3, &[70, 0][..])
-        );
+        let command = &set.questions[0].commands[0];
+        assert_eq!((command.function, &command.value[..]), (3, &[70, 0][..]));
         assert_eq!((set.retries, set.limit), (2, Duration::from_millis(500)));
     }
 
@@ -389,12 +440,10 @@ mod tests {
             ("get sunday 4", [7, 4], 1),
         ] {
             let request = schedule(text);
-            let command = &request.commands[0];
+            let commands = &request.questions[0].commands;
+            let command = &commands[0];
             assert_eq!((command.function, command.number), (1, 0x0077));
-            assert_eq!(
-                (&command.value[..], request.commands.len()),
-                (&first[..], count)
-            );
+            assert_eq!((&command.value[..], commands.len()), (&first[..], count));
             assert_eq!(request.retries, RETRIES);
         }
         let set = schedule("set weekend 2 5 21 22:30");
@@ -403,7 +452,8 @@ mod tests {
             number: 0x0077,
             value: vec![9, 2, 5, 21, 30, 22],
         };
-        assert_eq!((set.commands, set.retries), (vec![command], NO_RETRIES));
+        assert_eq!(set.questions[0].commands, [command]);
+        assert_eq!(set.retries, NO_RETRIES);
     }
 
     #[test]
@@ -441,13 +491,82 @@ mod tests {
     }
 
     #[test]
+    fn a_unit_type_is_2_to_5_and_2_where_none_is_given() {
+        for (option, unit_type) in [
+            ("", UnitType::Micra),
+            ("--type 2", UnitType::Micra),
+            ("--type=3", UnitType::ExpertA50),
+            ("--type 4", UnitType::ExpertDuo),
+            ("--type 5", UnitType::ExpertA30),
+        ] {
+            let get = request(&format!("get {IDENTITY} {option} speed-mode"));
+            assert_eq!(get.questions[0].unit.unit_type, unit_type);
+            let board = "board --id 002D6E1B34565815 --password 1111 --mode ap";
+            match parsed(&format!("{board} {option}")) {
+                Ok(Task::Board(settings)) => assert_eq!(settings.unit_type, unit_type),
+                other => panic!("{option}: {other:?}"),
+            }
+            match parsed(&format!("rows {option}")) {
+                Ok(Task::Print(text)) => assert_eq!(text, rows::table(unit_type)),
+                other => panic!("{option}: {other:?}"),
+            }
+            let schedule = parsed(&format!("schedule {IDENTITY} {option} get"));
+            assert_eq!(schedule.is_ok(), unit_type == UnitType::Micra);
+        }
+    }
+
+    #[test]
+    fn unit_types_that_are_none() {
+        for bad in [
+            "--type 1",
+            "--type 6",
+            "--type 02",
+            "--type x",
+            "--type=",
+            "--type 3 --type 3",
+        ] {
+            for command in [
+                format!("get {IDENTITY} speed-mode"),
+                String::from("board --id 002D6E1B34565815 --password 1111 --mode ap"),
+                String::from("rows"),
+            ] {
+                let error = parsed(&format!("{command} {bad}")).expect_err(bad);
+                assert!(error.starts_with("--type "), "{error}");
+            }
+        }
+        assert!(parsed("search --host h --type 3").is_err());
+    }
+
+    /// The rows that a measured value or a request is for are those of the unit type.
+    #[test]
+    fn rows_go_by_the_unit_type() {
+        let board = "board --id 002D6E1B34565815 --password 1111 --mode ap --measure humidity=55";
+        assert!(parsed(&format!("{board} --type 5")).is_ok());
+        assert!(parsed(board).is_err());
+        for (command, types) in [
+            ("get humidity", &["3", "4", "5"][..]),
+            ("get 0-10v-sensor-signal", &["3", "4"]),
+            ("raise supply-fan-level-1", &["3"]),
+            ("lower filter-replacement-timer", &["2", "3"]),
+            ("set night-party-timer=party", &["3", "4", "5"]),
+            ("get intake-air-temperature", &["2"]),
+            ("get 0x0025 all", &["2", "3", "4", "5"]),
+        ] {
+            for number in ["2", "3", "4", "5"] {
+                let asked = parsed(&format!("{command} {IDENTITY} --type {number}"));
+                assert_eq!(asked.is_ok(), types.contains(&number), "{command} {number}");
+            }
+        }
+    }
+
+    #[test]
     fn a_search_reads_the_id_and_the_unit_type() {
         let search = request("search --host h");
-        let numbers: Vec<u16> = search.commands.iter().map(|one| one.number).collect();
+        let Question { unit, commands } = &search.questions[0];
+        let numbers: Vec<u16> = commands.iter().map(|one| one.number).collect();
         assert_eq!(numbers, [0x007C, 0x00B9]);
-        let unit = &search.units[0];
         assert_eq!((unit.host.as_str(), &unit.id[..]), ("h", &DEFAULT_ID[..]));
-        assert!(unit.password.is_empty() && search.units.len() == 1);
+        assert!(unit.password.is_empty() && search.questions.len() == 1);
     }
 
     #[test]
@@ -546,7 +665,7 @@ mod tests {
         }
         assert!(parsed("help fetch").is_err() && parsed("help get set").is_err());
         let set = request(&format!("set {IDENTITY} -- wifi-name=--help"));
-        assert_eq!(set.commands[0].value, b"--help");
+        assert_eq!(set.questions[0].commands[0].value, b"--help");
         assert!(parsed(&format!("get {IDENTITY} -- --help")).is_err());
     }
 
@@ -615,6 +734,7 @@ mod tests {
             "get --boards f --board a --host h 0001",
             "get --boards f --board a --id 002D6E1B34565815 0001",
             "get --boards f --board a --password 1111 0001",
+            "get --boards f --board a --type 3 0001",
             "get --boards no/such/file --board a 0001",
             "search --boards f --board a",
         ] {

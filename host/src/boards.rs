@@ -1,7 +1,7 @@
 //! The boards that a command asks: the one that its options name, or some of a file.
 //!
-//! A line of the file is a board: name, host, ID and password, with spaces or tabs between them. `-` is the empty password. A line that
-//! begins with `#` is a comment; empty lines are passed over.
+//! A line of the file is a board: name, host, ID, password and perhaps its unit type, with spaces or tabs between them. `-` is the empty
+//! password. A line that begins with `#` is a comment; empty lines are passed over.
 
 use std::fs::{self, Metadata};
 use std::path::Path;
@@ -9,6 +9,7 @@ use std::path::Path;
 use crate::ffi::ID_SIZE;
 use crate::hex;
 use crate::target;
+use crate::unit_type::UnitType;
 
 /// A board that can be asked.
 #[derive(Clone, Debug, PartialEq, Eq)]
@@ -18,6 +19,7 @@ pub struct Unit {
     pub host: String,
     pub id: Vec<u8>,
     pub password: Vec<u8>,
+    pub unit_type: UnitType,
 }
 
 /// The word that stands for every board of a file.
@@ -68,11 +70,15 @@ fn parse(text: &str) -> Result<Vec<Unit>, String> {
 /// Says nothing of what stands there, which may be a password in the wrong place.
 fn parse_line(line: &str) -> Result<Unit, String> {
     let fields: Vec<&str> = line.split_whitespace().collect();
-    let [name, host, id, password] = fields[..] else {
-        let count = fields.len();
-        return Err(format!(
-            "a board has a name, a host, an ID and a password (`-` if it is empty), not {count} fields"
-        ));
+    let (name, host, id, password, unit_type) = match fields[..] {
+        [name, host, id, password] => (name, host, id, password, None),
+        [name, host, id, password, unit_type] => (name, host, id, password, Some(unit_type)),
+        _ => {
+            let count = fields.len();
+            return Err(format!(
+                "a board has a name, a host, an ID, a password (`-` if it is empty) and perhaps a unit type, not {count} fields"
+            ));
+        }
     };
     if name == ALL || !name.bytes().all(is_name) {
         return Err(format!(
@@ -85,7 +91,13 @@ fn parse_line(line: &str) -> Result<Unit, String> {
         host: String::from(host),
         id: parse_id(id).map_err(|_| String::from("the third field is no ID"))?,
         password: parse_password(password)?,
+        unit_type: parse_unit_type(unit_type)?,
     })
+}
+
+fn parse_unit_type(text: Option<&str>) -> Result<UnitType, String> {
+    let parsed = text.map_or(Some(UnitType::default()), UnitType::parse);
+    parsed.ok_or_else(|| String::from("the fifth field is no unit type, which is 2 to 5"))
 }
 
 fn is_name(byte: u8) -> bool {
@@ -140,22 +152,24 @@ pub fn choose(units: &[Unit], names: &[&str]) -> Result<Vec<Unit>, String> {
 mod tests {
     use super::*;
 
-    const FILE: &str = "# the study's boards\n\n flat-1\t192.168.1.7  002D6E1B34565815 1111\r\nflat-2 board.example:4001 00000000000000000000000000000000 -\n";
+    const FILE: &str = "# the study's boards\n\n flat-1\t192.168.1.7  002D6E1B34565815 1111\r\nflat-2 board.example:4001 00000000000000000000000000000000 -\t5\n";
 
     #[test]
     fn a_line_is_a_board() {
         let units = parse(FILE).expect("two boards");
-        let unit = |name: &str, host: &str, id: &[u8], password: &[u8]| Unit {
+        let unit = |name: &str, host: &str, id: &[u8], password: &[u8], unit_type| Unit {
             name: Some(name.to_string()),
             host: host.to_string(),
             id: id.to_vec(),
             password: password.to_vec(),
+            unit_type,
         };
+        let (micra, expert) = (UnitType::Micra, UnitType::ExpertA30);
         assert_eq!(
             units,
             [
-                unit("flat-1", "192.168.1.7", b"002D6E1B34565815", b"1111"),
-                unit("flat-2", "board.example:4001", &[0; 16], b""),
+                unit("flat-1", "192.168.1.7", b"002D6E1B34565815", b"1111", micra),
+                unit("flat-2", "board.example:4001", &[0; 16], b"", expert),
             ]
         );
         assert_eq!(parse("#\n"), Ok(vec![]));
@@ -165,7 +179,11 @@ mod tests {
     fn a_wrong_line_is_told_by_its_number_and_not_shown() {
         for (line, reason) in [
             ("flat-3 h 002D6E1B34565815", "not 3 fields"),
-            ("flat-3 h 002D6E1B34565815 1111 5", "not 5 fields"),
+            ("flat-3 h 002D6E1B34565815 1111 5 6", "not 6 fields"),
+            ("flat-3 h 002D6E1B34565815 1111 1", "no unit type"),
+            ("flat-3 h 002D6E1B34565815 1111 6", "no unit type"),
+            ("flat-3 h 002D6E1B34565815 1111 03", "no unit type"),
+            ("flat-3 h 002D6E1B34565815 1111 secret", "no unit type"),
             ("flat-1 h 002D6E1B34565815 1111", "twice"),
             ("all h 002D6E1B34565815 1111", "not `all`"),
             ("f\u{1B}[m h 002D6E1B34565815 1111", "a name is of"),
@@ -182,6 +200,21 @@ mod tests {
                 "{error}"
             );
             assert!(!error.contains("secret") && !error.contains('\u{1B}'));
+        }
+    }
+
+    #[test]
+    fn a_board_is_a_micra_or_what_the_fifth_field_says() {
+        let line = "flat h 002D6E1B34565815 1111";
+        for (field, unit_type) in [
+            ("", UnitType::Micra),
+            (" 2", UnitType::Micra),
+            (" 3", UnitType::ExpertA50),
+            ("\t4 ", UnitType::ExpertDuo),
+            ("  5", UnitType::ExpertA30),
+        ] {
+            let units = parse(&format!("{line}{field}")).expect("a board");
+            assert_eq!(units[0].unit_type, unit_type);
         }
     }
 

@@ -8,8 +8,7 @@ use crate::exchange::{Exchange, Failure, Response};
 use crate::ffi::Command;
 use crate::outcome::{self, Outcome};
 use crate::output;
-use crate::packing;
-use crate::request::{Kind, Request};
+use crate::request::{Kind, Question, Request};
 use crate::target::{self, Target};
 
 /// Asks every board and shows each answer when it is there; whether all went well.
@@ -19,9 +18,9 @@ pub fn run(request: &Request) -> bool {
     }
     thread::scope(|scope| {
         let (sender, receiver) = mpsc::channel();
-        for unit in &request.units {
-            let sender = sender.clone();
-            let ask = move || sender.send((unit, ask(request, unit)));
+        for question in &request.questions {
+            let (sender, unit) = (sender.clone(), &question.unit);
+            let ask = move || sender.send((unit, ask(request, question)));
             if let Err(error) = thread::Builder::new().spawn_scoped(scope, ask) {
                 output::tell(unit, &format!("cannot be asked: {error}"));
             }
@@ -30,16 +29,17 @@ pub fn run(request: &Request) -> bool {
         let shown = receiver
             .iter()
             .filter(|(unit, outcome)| output::show(request, unit, outcome));
-        shown.count() == request.units.len()
+        shown.count() == request.questions.len()
     })
 }
 
-fn ask(request: &Request, unit: &Unit) -> Result<Outcome, String> {
+fn ask(request: &Request, question: &Question) -> Result<Outcome, String> {
+    let unit = &question.unit;
     let target = match request.kind {
         Kind::Search => target::resolve_any(&unit.host)?,
         Kind::Rows | Kind::Schedule => target::resolve(&unit.host)?,
     };
-    let packets = packing::pack(&request.commands, &unit.password);
+    let packets = question.packets();
     let packets = packets.map_err(|refusal| format!("the request is {refusal}"))?;
     let mut answers: Vec<(&[Command], Response)> = Vec::new();
     for commands in packets {
@@ -59,6 +59,7 @@ fn exchange(
 ) -> Result<Vec<Response>, Failure> {
     let exchange = Exchange {
         target,
+        unit_type: unit.unit_type,
         id: &unit.id,
         password: &unit.password,
         limit: request.limit,

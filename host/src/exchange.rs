@@ -10,10 +10,12 @@ use crate::datagram;
 use crate::ffi::{self, Command, ID_SIZE};
 use crate::report::{self, Report};
 use crate::target::Target;
+use crate::unit_type::UnitType;
 
 /// Who is asked, and how long an answer is waited for.
 pub struct Exchange<'a> {
     pub target: Target,
+    pub unit_type: UnitType,
     pub id: &'a [u8],
     pub password: &'a [u8],
     /// For each time that the request is sent.
@@ -132,7 +134,7 @@ impl Exchange<'_> {
     fn judge(&self, commands: &[Command], bytes: &[u8]) -> Result<Vec<Report>, String> {
         ffi::read(bytes, self.id, self.password).map_err(|refusal| refusal.to_string())?;
         let reports = report::reports(bytes)?;
-        answer::check(commands, &reports)?;
+        answer::check(self.unit_type, commands, &reports)?;
         Ok(reports)
     }
 

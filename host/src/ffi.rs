@@ -24,13 +24,14 @@ pub struct Board {
     password: [u8; LONGEST_PASSWORD],
     size: u8,
     mode: u8,
+    unit: u8,
     store: [u8; STORE],
     /// Days and then periods, four bytes each.
     schedule: [[u8; 4]; ENTRIES],
 }
 
 const _: () =
-    assert!(std::mem::size_of::<Board>() == ID_SIZE + LONGEST_PASSWORD + 2 + STORE + 4 * ENTRIES);
+    assert!(std::mem::size_of::<Board>() == ID_SIZE + LONGEST_PASSWORD + 3 + STORE + 4 * ENTRIES);
 
 /// The board to keep, and the number of the refusal, 0 where there is none.
 #[repr(C)]
@@ -109,6 +110,7 @@ extern "C" {
         password: *const u8,
         password_length: usize,
         mode: u8,
+        unit: u8,
     ) -> CallResult;
     fn udgornwy_packet(
         board: *mut Board,
@@ -156,8 +158,8 @@ extern "C" {
     ) -> Reply;
 }
 
-/// Sets a board up.
-pub fn set_up(id: &[u8], password: &[u8], mode: u8) -> Result<Board, Refusal> {
+/// Sets a board of a unit type up.
+pub fn set_up(id: &[u8], password: &[u8], mode: u8, unit: u8) -> Result<Board, Refusal> {
     // SAFETY: both slices are live.
     let result = unsafe {
         udgornwy_set_up(
@@ -166,6 +168,7 @@ pub fn set_up(id: &[u8], password: &[u8], mode: u8) -> Result<Board, Refusal> {
             password.as_ptr(),
             password.len(),
             mode,
+            unit,
         )
     };
     accepted(result.refusal).map(|()| result.board)

@@ -42,6 +42,9 @@ pub const TIME: [Field; 3] = [
     byte(0, 0, 59, 2, ""),
 ];
 
+/// `23:59`, stored minutes first.
+pub const SHORT_TIME: [Field; 2] = [byte(1, 0, 23, 2, ":"), byte(0, 0, 59, 2, "")];
+
 /// `1h02m03s`, stored seconds first.
 pub const COUNTDOWN: [Field; 3] = [
     byte(2, 0, 23, 1, "h"),
@@ -49,8 +52,15 @@ pub const COUNTDOWN: [Field; 3] = [
     byte(0, 0, 59, 2, "s"),
 ];
 
-/// `364d23h59m`, stored minutes first.
-pub const LONG_COUNTDOWN: [Field; 3] = [
+/// `180d23h59m`, stored minutes first.
+pub const DURATION: [Field; 3] = [
+    byte(2, 0, 255, 1, "d"),
+    byte(1, 0, 23, 2, "h"),
+    byte(0, 0, 59, 2, "m"),
+];
+
+/// The same with two bytes of days: `364d23h59m`.
+pub const LONG_DURATION: [Field; 3] = [
     word(2, 1, "d"),
     byte(1, 0, 23, 2, "h"),
     byte(0, 0, 59, 2, "m"),
@@ -132,7 +142,9 @@ mod tests {
         for (fields, text, bytes) in [
             (&TIME[..], "23:05:09", &[9, 5, 23][..]),
             (&COUNTDOWN, "1h02m03s", &[3, 2, 1]),
-            (&LONG_COUNTDOWN, "365d23h59m", &[59, 23, 0x6D, 1]),
+            (&SHORT_TIME, "08:30", &[30, 8]),
+            (&DURATION, "255d23h59m", &[59, 23, 255]),
+            (&LONG_DURATION, "365d23h59m", &[59, 23, 0x6D, 1]),
             (&ADDRESS, "192.168.4.1", &[192, 168, 4, 1]),
             (&FIRMWARE, "1.12 2021-03-04", &[1, 12, 4, 3, 0xE5, 7]),
         ] {
@@ -158,6 +170,10 @@ mod tests {
         ] {
             assert_eq!(bytes_of(&TIME, bad, 3), None, "{bad}");
         }
+        for bad in ["", "8", "8:", "08:60", "24:00", "08:30:00", "08.30"] {
+            assert_eq!(bytes_of(&SHORT_TIME, bad, 2), None, "{bad}");
+        }
+        assert_eq!(bytes_of(&DURATION, "256d00h00m", 3), None);
         assert_eq!(show(&TIME, &[60, 0, 0]), None);
         assert_eq!(bytes_of(&ADDRESS, "1.2.3.256", 4), None);
     }

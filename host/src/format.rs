@@ -7,8 +7,8 @@ use crate::escape::{self, quoted};
 use crate::hex;
 use crate::outcome::Line;
 use crate::reading::Shown;
-use crate::report::{Report, HEAD};
-use crate::rows;
+use crate::report::HEAD;
+use crate::rows::{self, Row};
 
 #[derive(Clone, Copy, Debug, PartialEq, Eq)]
 pub enum Format {
@@ -54,7 +54,7 @@ fn schedule_line(line: &Line) -> String {
 
 fn table(lines: &[Line]) -> String {
     let mut cells = vec![["name", "number", "value", "raw"].map(String::from)];
-    cells.extend(lines.iter().map(|line| row(line.report)));
+    cells.extend(lines.iter().map(row));
     let width = |column: usize| cells.iter().map(|row| row[column].len()).max().unwrap_or(0);
     let (first, second, third) = (width(0), width(1), width(2));
     let lines = cells.iter().map(|[name, number, value, raw]| {
@@ -63,9 +63,10 @@ fn table(lines: &[Line]) -> String {
     lines.collect()
 }
 
-fn row(report: &Report) -> [String; 4] {
-    let name = rows::find(report.number).map_or("-", |row| row.name);
-    let value = shown(report).map_or_else(|| String::from("unknown"), |shown| shown.to_string());
+fn row(line: &Line) -> [String; 4] {
+    let report = line.report;
+    let name = row_of(line).map_or("-", |row| row.name);
+    let value = shown(line).map_or_else(|| String::from("unknown"), |shown| shown.to_string());
     let raw = report.value.as_deref().map(hex::digits);
     [
         String::from(name),
@@ -78,7 +79,7 @@ fn row(report: &Report) -> [String; 4] {
 /// An object on a line. What there is none of is null.
 fn json(board: Option<&str>, line: &Line) -> String {
     let report = line.report;
-    let (value, unit) = match shown(report) {
+    let (value, unit) = match shown(line) {
         None => (None, None),
         Some(Shown::Number(digits, "")) => (Some(digits), None),
         Some(Shown::Number(digits, unit)) => (Some(digits), Some(quoted(unit))),
@@ -93,10 +94,7 @@ fn json(board: Option<&str>, line: &Line) -> String {
         ("board", board.map(quoted)),
         ("id", Some(quoted(&escape::identity(line.response.id())))),
         ("number", Some(format!("\"0x{:04X}\"", report.number))),
-        (
-            "name",
-            rows::find(report.number).map(|row| quoted(row.name)),
-        ),
+        ("name", row_of(line).map(|row| quoted(row.name))),
         ("value", value),
         ("unit", unit),
         (
@@ -113,10 +111,14 @@ fn json(board: Option<&str>, line: &Line) -> String {
     format!("{{{}}}", members.join(","))
 }
 
+fn row_of(line: &Line) -> Option<&'static Row> {
+    rows::find(line.unit_type, line.report.number)
+}
+
 /// A report's value by the reading of its row; bytes where there is no such row.
-fn shown(report: &Report) -> Option<Shown> {
-    let value = report.value.as_deref()?;
-    Some(match rows::find(report.number) {
+fn shown(line: &Line) -> Option<Shown> {
+    let value = line.report.value.as_deref()?;
+    Some(match row_of(line) {
         Some(row) => row.reading.show(value),
         None => Shown::Text(format!("0x{}", hex::digits(value))),
     })
@@ -127,7 +129,8 @@ mod tests {
     use super::*;
     use crate::exchange::Response;
     use crate::ffi::{self, Command, ID_SIZE};
-    use crate::rows::ROWS;
+    use crate::report::Report;
+    use crate::unit_type::UnitType;
     use std::time::UNIX_EPOCH;
 
     /// A packet with this ID.
@@ -158,22 +161,29 @@ mod tests {
 
     #[test]
     fn every_value_of_every_row_is_printable_in_every_format() {
-        let numbers = ROWS.iter().map(|row| row.number).chain([0x0101]);
-        for number in numbers {
-            for length in [0, 1, 2, 3, 4, 6, 16, 64, 255] {
-                let values = (0..=255_u8).step_by(17);
-                for value in values {
-                    let bytes: Vec<u8> = (0..length).map(|at: u8| value.wrapping_add(at)).collect();
-                    check(&Report::new(number, Some(&bytes)), [value; ID_SIZE]);
-                }
+        for unit_type in UnitType::ALL {
+            let numbers = rows::of(unit_type).map(|row| row.number);
+            for number in numbers.chain([0x0101]) {
+                check_number(unit_type, number);
             }
-            check(&Report::new(number, None), [0; ID_SIZE]);
         }
     }
 
-    fn check(report: &Report, id: [u8; ID_SIZE]) {
+    fn check_number(unit_type: UnitType, number: u16) {
+        for length in [0, 1, 2, 3, 4, 6, 16, 64, 255] {
+            for value in (0..=255_u8).step_by(17) {
+                let bytes: Vec<u8> = (0..length).map(|at: u8| value.wrapping_add(at)).collect();
+                let report = Report::new(number, Some(&bytes));
+                check(unit_type, &report, [value; ID_SIZE]);
+            }
+        }
+        check(unit_type, &Report::new(number, None), [0; ID_SIZE]);
+    }
+
+    fn check(unit_type: UnitType, report: &Report, id: [u8; ID_SIZE]) {
         let (command, response) = (Command::new(1, report.number, &[]), response(id));
         let line = Line {
+            unit_type,
             command: &command,
             report,
             response: &response,
@@ -197,6 +207,7 @@ mod tests {
         let (command, report) = (Command::new(1, 2, &[]), Report::new(2, Some(&[3])));
         let response = response([b'A'; ID_SIZE]);
         let lines = [Line {
+            unit_type: UnitType::Micra,
             command: &command,
             report: &report,
             response: &response,

@@ -38,4 +38,5 @@ pub mod server;
 pub mod signals;
 pub mod summary;
 pub mod target;
+pub mod unit_type;
 pub mod values;

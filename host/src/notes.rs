@@ -1,12 +1,14 @@
-//! What must be told beside the reports: what was not stored, and what a raise did not change.
+//! What must be told beside the reports: what was not stored, what a raise did not change, and of which product a board is.
 
-use crate::entry::{self, Place};
+use crate::entry::Place;
+use crate::escape;
 use crate::ffi::{Command, LOWER, RAISE, READ, WRITE};
 use crate::hex;
 use crate::outcome::Line;
 use crate::reading::Shown;
 use crate::report::Report;
 use crate::rows::{self, Access};
+use crate::unit_type::UnitType;
 use crate::values::INVERT;
 
 /// A line on standard error.
@@ -23,11 +25,49 @@ pub fn of(lines: &[Line]) -> Vec<Note> {
     let pairs = before.zip(lines);
     pairs
         .filter_map(|(before, line)| match line.command.function {
-            WRITE => not_stored(line.command, line.report),
-            RAISE | LOWER => unchanged(before, line.command, line.report),
+            WRITE => not_stored(line.unit_type, line.command, line.report),
+            RAISE | LOWER => unchanged(line.unit_type, before, line.command, line.report),
             _ => None,
         })
         .collect()
+}
+
+/// The first line that reports the unit type, and the type's number.
+fn first_type<'a, 'b>(lines: &'a [Line<'b>]) -> Option<(&'a Line<'b>, u16)> {
+    const NUMBER: u16 = 0x00B9;
+    let line = lines.iter().find(|line| line.report.number == NUMBER)?;
+    let bytes = line.report.value.as_deref()?.try_into().ok()?;
+    Some((line, u16::from_le_bytes(bytes)))
+}
+
+/// A unit type as messages call it, also one that there is not.
+fn type_words(number: u16) -> String {
+    let unknown = || format!("type {number} (which is none of 2 to 5)");
+    UnitType::of(number).map_or_else(unknown, |unit_type| unit_type.to_string())
+}
+
+/// Which product has answered a search.
+pub fn product(lines: &[Line]) -> Option<Note> {
+    let (line, number) = first_type(lines)?;
+    let id = escape::identity(line.response.id());
+    Some(Note {
+        text: format!("{id} is {}", type_words(number)),
+        failed: false,
+    })
+}
+
+/// A board whose type is another than it was asked as: names and values were then those of the other.
+pub fn other_type(lines: &[Line]) -> Option<Note> {
+    let (line, number) = first_type(lines)?;
+    let asked = line.unit_type;
+    let is_other = u16::from(asked.number()) != number;
+    is_other.then(|| Note {
+        text: format!(
+            "the board is {}, but was asked as {asked}: names and values are those of the latter",
+            type_words(number)
+        ),
+        failed: false,
+    })
 }
 
 /// A board that does not know an entry cannot show the schedule.
@@ -45,17 +85,17 @@ pub fn unknown_entries(lines: &[Line]) -> Vec<Note> {
     places.map(note).collect()
 }
 
-fn not_stored(command: &Command, report: &Report) -> Option<Note> {
+fn not_stored(unit_type: UnitType, command: &Command, report: &Report) -> Option<Note> {
     let number = command.number;
-    if is_stored(command, report.value.as_deref()) {
+    if is_stored(unit_type, command, report.value.as_deref()) {
         return None;
     }
-    let sent = show(number, &command.value);
+    let sent = show(unit_type, number, &command.value);
     let held = match &report.value {
-        Some(value) => format!("held {}", show(number, value)),
+        Some(value) => format!("held {}", show(unit_type, number, value)),
         None => String::from("the board does not know it"),
     };
-    let title = rows::title(number);
+    let title = rows::title(unit_type, number);
     Some(Note {
         text: format!("{title} was not stored: sent {sent}, {held}"),
         failed: true,
@@ -63,12 +103,13 @@ fn not_stored(command: &Command, report: &Report) -> Option<Note> {
 }
 
 /// Whether a board that holds this has stored what was written.
-fn is_stored(command: &Command, held: Option<&[u8]>) -> bool {
-    let sent = &command.value[..];
-    let inverts = rows::find(command.number).is_some_and(|row| row.access == Access::Invert);
+fn is_stored(unit_type: UnitType, command: &Command, held: Option<&[u8]>) -> bool {
+    let (number, sent) = (command.number, &command.value[..]);
+    let row = rows::find(unit_type, number);
+    let inverts = row.is_some_and(|row| row.access == Access::Invert);
     match held {
         None => false,
-        Some(held) if command.number == entry::NUMBER => is_entry_stored(sent, held),
+        Some(held) if rows::is_schedule(unit_type, number) => is_entry_stored(sent, held),
         Some(held) if inverts && sent == [INVERT] => matches!(held, [0 | 1]),
         Some(held) => held == sent,
     }
@@ -82,7 +123,12 @@ fn is_entry_stored(sent: &[u8], held: &[u8]) -> bool {
 }
 
 /// A raise or a lower is asked with a read before it.
-fn unchanged(before: Option<&Report>, command: &Command, report: &Report) -> Option<Note> {
+fn unchanged(
+    unit_type: UnitType,
+    before: Option<&Report>,
+    command: &Command,
+    report: &Report,
+) -> Option<Note> {
     let held = report.value.as_ref()?;
     if before != Some(report) {
         return None;
@@ -92,12 +138,14 @@ fn unchanged(before: Option<&Report>, command: &Command, report: &Report) -> Opt
     } else {
         "lower"
     };
-    let why = match rows::find(command.number).map(|row| row.access) {
+    let number = command.number;
+    let why = match rows::find(unit_type, number).map(|row| row.access) {
         Some(Access::Step) => String::from("no further value"),
         Some(_) => format!("the row takes no {name}"),
         None => format!("no further value, or the row takes no {name}"),
     };
-    let (title, held) = (rows::title(command.number), show(command.number, held));
+    let title = rows::title(unit_type, number);
+    let held = show(unit_type, number, held);
     Some(Note {
         text: format!("{title} stays {held}: {why}"),
         failed: false,
@@ -105,9 +153,9 @@ fn unchanged(before: Option<&Report>, command: &Command, report: &Report) -> Opt
 }
 
 /// A value with its bytes: `21 degC (15)`.
-fn show(number: u16, value: &[u8]) -> String {
+fn show(unit_type: UnitType, number: u16, value: &[u8]) -> String {
     let digits = hex::digits(value);
-    let row = rows::find(number).filter(|row| row.size.range().contains(&value.len()));
+    let row = rows::find(unit_type, number).filter(|row| row.size.range().contains(&value.len()));
     match row.map(|row| row.reading.show(value)) {
         Some(Shown::Entry(entry)) => format!("{} ({digits})", entry.words()),
         Some(shown) => format!("{shown} ({digits})"),
@@ -118,14 +166,75 @@ fn show(number: u16, value: &[u8]) -> String {
 #[cfg(test)]
 mod tests {
     use super::*;
+    use crate::exchange::Response;
+    use crate::ffi;
 
     fn told(number: u16, sent: &[u8], held: Option<&[u8]>) -> Option<String> {
+        told_of(UnitType::Micra, number, sent, held)
+    }
+
+    fn told_of(
+        unit_type: UnitType,
+        number: u16,
+        sent: &[u8],
+        held: Option<&[u8]>,
+    ) -> Option<String> {
         let note = not_stored(
+            unit_type,
             &Command::new(WRITE, number, sent),
             &Report::new(number, held),
         )?;
         assert!(note.failed);
         Some(note.text)
+    }
+
+    /// The timer of the VENTO Expert is no switch: a 2 that leaves 0 was not stored.
+    #[test]
+    fn what_was_stored_goes_by_the_unit_type() {
+        let (micra, expert) = (UnitType::Micra, UnitType::ExpertDuo);
+        assert_eq!(told_of(micra, 0x07, &[2], Some(&[0])), None);
+        assert_eq!(told_of(expert, 0x07, &[2], Some(&[2])), None);
+        let text = "night-party-timer (0x0007) was not stored: sent party (02), held off (00)";
+        let note = told_of(expert, 0x07, &[2], Some(&[0]));
+        assert_eq!(note.as_deref(), Some(text));
+        let text = "0x0077 was not stored: sent 0x0101, the board does not know it";
+        let note = told_of(expert, 0x77, &[1, 1], None);
+        assert_eq!(note.as_deref(), Some(text));
+    }
+
+    /// The notes of a report of 0x00B9, for a board that was asked as a Micra.
+    fn typed(value: Option<&[u8]>) -> [Option<String>; 2] {
+        let (command, report) = (Command::new(READ, 0xB9, &[]), Report::new(0xB9, value));
+        let response = Response {
+            sender: ([127, 0, 0, 1], 4000).into(),
+            time: std::time::UNIX_EPOCH,
+            bytes: ffi::write(b"002D6E1B34565815", b"", &[]).expect("a packet"),
+            reports: Vec::new(),
+        };
+        let lines = [Line {
+            unit_type: UnitType::Micra,
+            command: &command,
+            report: &report,
+            response: &response,
+        }];
+        [product(&lines), other_type(&lines)].map(|note| {
+            assert!(!note.as_ref().is_some_and(|note| note.failed));
+            note.map(|note| note.text)
+        })
+    }
+
+    #[test]
+    fn a_product_is_told_and_so_is_another_than_was_meant() {
+        let told = |text: &str| Some(String::from(text));
+        let micra = told("002D6E1B34565815 is type 2 (Micra 100 WiFi)");
+        assert_eq!(typed(Some(&[2, 0])), [micra, None]);
+        let found = told("002D6E1B34565815 is type 5 (VENTO Expert A30)");
+        let other = told("the board is type 5 (VENTO Expert A30), but was asked as type 2 (Micra 100 WiFi): names and values are those of the latter");
+        assert_eq!(typed(Some(&[5, 0])), [found, other]);
+        let [found, _] = typed(Some(&[2, 1]));
+        let none = "002D6E1B34565815 is type 258 (which is none of 2 to 5)";
+        assert_eq!(found.as_deref(), Some(none));
+        assert_eq!(typed(None), [None, None]);
     }
 
     #[test]
@@ -220,12 +329,14 @@ mod tests {
         ] {
             let before = Report::new(number, Some(&[before]));
             let after = Report::new(number, Some(&[after]));
-            let note = unchanged(Some(&before), &Command::new(function, number, &[]), &after);
+            let command = Command::new(function, number, &[]);
+            let note = unchanged(UnitType::Micra, Some(&before), &command, &after);
             assert_eq!(note.as_ref().map(|note| note.text.as_str()), text);
             assert!(!note.is_some_and(|note| note.failed));
         }
         let unknown = Report::new(0x0101, None);
-        let note = unchanged(Some(&unknown), &Command::new(RAISE, 0x0101, &[]), &unknown);
+        let raise = Command::new(RAISE, 0x0101, &[]);
+        let note = unchanged(UnitType::Micra, Some(&unknown), &raise, &unknown);
         assert_eq!(note, None);
     }
 }

@@ -6,11 +6,12 @@ use crate::answer;
 use crate::boards::Unit;
 use crate::exchange::Response;
 use crate::ffi::Command;
-use crate::format;
+use crate::format::{self, Format};
 use crate::notes::{self, Note};
 use crate::report::Report;
 use crate::request::{Kind, Request};
 use crate::target::Target;
+use crate::unit_type::UnitType;
 
 pub struct Outcome {
     pub parts: Vec<Part>,
@@ -28,6 +29,8 @@ pub struct Part {
 /// A command with its report.
 #[derive(Clone, Copy)]
 pub struct Line<'a> {
+    /// What the board was asked as.
+    pub unit_type: UnitType,
     pub command: &'a Command,
     pub report: &'a Report,
     pub response: &'a Response,
@@ -40,16 +43,15 @@ pub fn of(
     target: Target,
     answers: Vec<(&[Command], Response)>,
 ) -> Outcome {
+    let lines_of = |answer| lines_of(unit.unit_type, answer);
     let lines: Vec<Vec<Line>> = answers.iter().map(lines_of).collect();
     // Several boards have a listing each, several packets of one board have one.
     let lines = match target.every {
         true => lines,
         false => vec![lines.concat()],
     };
-    let mut notes: Vec<Note> = lines.iter().flat_map(|lines| notes::of(lines)).collect();
-    if request.kind == Kind::Schedule {
-        notes.extend(lines.iter().flat_map(|lines| notes::unknown_entries(lines)));
-    }
+    let notes = lines.iter().flat_map(|lines| notes_of(request, lines));
+    let notes = notes.collect();
     let part = |lines: &Vec<Line>| part(request, unit, target, lines);
     Outcome {
         parts: lines.iter().map(part).collect(),
@@ -58,9 +60,25 @@ pub fn of(
     }
 }
 
-fn lines_of<'a>((commands, response): &'a (&[Command], Response)) -> Vec<Line<'a>> {
+fn notes_of(request: &Request, lines: &[Line]) -> Vec<Note> {
+    let mut notes = notes::of(lines);
+    match request.kind {
+        Kind::Rows => notes.extend(notes::other_type(lines)),
+        Kind::Schedule => notes.extend(notes::unknown_entries(lines)),
+        // The other formats show the product.
+        Kind::Search if request.format == Format::Listing => notes.extend(notes::product(lines)),
+        Kind::Search => {}
+    }
+    notes
+}
+
+fn lines_of<'a>(
+    unit_type: UnitType,
+    (commands, response): &'a (&[Command], Response),
+) -> Vec<Line<'a>> {
     let pairs = answer::reported(commands).zip(&response.reports);
     let line = |(command, report)| Line {
+        unit_type,
         command,
         report,
         response,
@@ -71,7 +89,7 @@ fn lines_of<'a>((commands, response): &'a (&[Command], Response)) -> Vec<Line<'a
 fn part(request: &Request, unit: &Unit, target: Target, lines: &[Line]) -> Part {
     let sender = lines.first().map(|line| line.response.sender);
     let name = unit.name.as_deref();
-    let has_head = request.units.len() > 1;
+    let has_head = request.questions.len() > 1;
     Part {
         sender: sender.filter(|_| target.every),
         text: format::show(request.format, name, has_head, &shown(lines)),
@@ -89,15 +107,13 @@ fn shown<'a>(lines: &[Line<'a>]) -> Vec<Line<'a>> {
 mod tests {
     use super::*;
     use crate::ffi::{RAISE, READ};
-    use crate::format::Format;
     use std::time::{Duration, UNIX_EPOCH};
 
     fn request(kind: Kind) -> Request {
         Request {
-            units: Vec::new(),
+            questions: Vec::new(),
             warning: None,
             kind,
-            commands: Vec::new(),
             limit: Duration::ZERO,
             retries: 0,
             dump: false,
@@ -124,6 +140,7 @@ mod tests {
             host: String::new(),
             id: Vec::new(),
             password: Vec::new(),
+            unit_type: UnitType::Micra,
         };
         let address = ([127, 0, 0, 1], 4000).into();
         of(&request(kind), &unit, Target { address, every }, answers)

@@ -4,15 +4,21 @@
 use crate::answer;
 use crate::ffi::{self, Command, DEFAULT_ID, WRITE};
 use crate::refusal::Refusal;
-use crate::rows::{self, ROWS};
+use crate::rows::{self, Row};
+use crate::unit_type::UnitType;
 
-/// The commands joined in packets, in their order, or why one of them can be written in none: so nothing is sent before that is known.
-pub fn pack<'a>(commands: &'a [Command], password: &[u8]) -> Result<Vec<&'a [Command]>, Refusal> {
+/// The commands to a board of the unit type joined in packets, in their order, or why one of them can be written in none: so nothing is sent
+/// before that is known.
+pub fn pack<'a>(
+    unit_type: UnitType,
+    commands: &'a [Command],
+    password: &[u8],
+) -> Result<Vec<&'a [Command]>, Refusal> {
     let mut packets = Vec::new();
     let mut rest = commands;
     while !rest.is_empty() {
         let sizes = 1..=rest.len();
-        let fitting = sizes.take_while(|size| fits(&rest[..*size], password));
+        let fitting = sizes.take_while(|size| fits(unit_type, &rest[..*size], password));
         let (packet, others) = rest.split_at(fitting.last().unwrap_or(1));
         ffi::write(&DEFAULT_ID, password, packet)?;
         packets.push(packet);
@@ -22,8 +28,9 @@ pub fn pack<'a>(commands: &'a [Command], password: &[u8]) -> Result<Vec<&'a [Com
 }
 
 /// Whether some commands fit one packet, and their reports one response.
-pub fn fits(commands: &[Command], password: &[u8]) -> bool {
-    let reports: Vec<Command> = answer::reported(commands).map(longest_report).collect();
+pub fn fits(unit_type: UnitType, commands: &[Command], password: &[u8]) -> bool {
+    let longest = |command: &Command| longest_report(unit_type, command.number);
+    let reports: Vec<Command> = answer::reported(commands).map(longest).collect();
     is_short(commands, password) && is_short(&reports, password)
 }
 
@@ -34,19 +41,15 @@ fn is_short(commands: &[Command], password: &[u8]) -> bool {
 }
 
 /// A write that takes the room of the longest report that a command can have: what is written is encoded as what is reported.
-fn longest_report(command: &Command) -> Command {
-    Command::new(
-        WRITE,
-        command.number,
-        &vec![0; longest_value(command.number)],
-    )
+fn longest_report(unit_type: UnitType, number: u16) -> Command {
+    Command::new(WRITE, number, &vec![0; longest_value(unit_type, number)])
 }
 
 /// The longest value of a row. A number that the table lacks may be a row of the guide, and those are not longer than the longest here.
-fn longest_value(number: u16) -> usize {
-    let longest = |row: &rows::Row| *row.size.range().end();
-    let any = || ROWS.iter().map(longest).max().unwrap_or(0);
-    rows::find(number).map_or_else(any, longest)
+fn longest_value(unit_type: UnitType, number: u16) -> usize {
+    let longest = |row: &Row| *row.size.range().end();
+    let any = || rows::of(unit_type).map(longest).max().unwrap_or(0);
+    rows::find(unit_type, number).map_or_else(any, longest)
 }
 
 #[cfg(test)]
@@ -56,22 +59,39 @@ mod tests {
     use crate::report::{self, Report};
 
     const ID: &[u8] = b"002D6E1B34565815";
+    const MICRA: UnitType = UnitType::Micra;
+
+    fn pack<'a>(commands: &'a [Command], password: &[u8]) -> Result<Vec<&'a [Command]>, Refusal> {
+        super::pack(MICRA, commands, password)
+    }
+
+    fn fits(commands: &[Command], password: &[u8]) -> bool {
+        super::fits(MICRA, commands, password)
+    }
 
     fn command(function: u8, number: u16, length: usize) -> Command {
         Command::new(function, number, &vec![b'1'; length])
     }
 
     fn reads() -> Vec<Command> {
-        let read = |row: &rows::Row| match row.number {
+        reads_of(MICRA)
+    }
+
+    fn reads_of(unit_type: UnitType) -> Vec<Command> {
+        let read = |row: &Row| match row.number {
             0x0077 => Command::new(1, 0x0077, &[1, 1]),
             number => command(1, number, 0),
         };
-        ROWS.iter().map(read).collect()
+        rows::of(unit_type).map(read).collect()
+    }
+
+    fn board(password: &[u8]) -> ffi::Board {
+        board_of(MICRA, password)
     }
 
     /// A board whose texts are the longest.
-    fn board(password: &[u8]) -> ffi::Board {
-        let Ok(mut board) = ffi::set_up(ID, password, 1) else {
+    fn board_of(unit_type: UnitType, password: &[u8]) -> ffi::Board {
+        let Ok(mut board) = ffi::set_up(ID, password, 1, unit_type.number()) else {
             panic!("this board is set up");
         };
         let texts = [command(2, 0x95, 32), command(2, 0x96, 64)];
@@ -81,8 +101,12 @@ mod tests {
     }
 
     fn is_answered(commands: &[Command], password: &[u8]) -> bool {
+        is_answered_by(MICRA, commands, password)
+    }
+
+    fn is_answered_by(unit_type: UnitType, commands: &[Command], password: &[u8]) -> bool {
         ffi::write(ID, password, commands).is_ok_and(|packet| {
-            let answer = ffi::packet(&mut board(password), &packet);
+            let answer = ffi::packet(&mut board_of(unit_type, password), &packet);
             matches!(answer, Answer::Response(_))
         })
     }
@@ -101,13 +125,20 @@ mod tests {
         ];
         for password in [&b""[..], b"12345678"] {
             assert!(fits(&mixed, password) && is_answered(&mixed, password));
-            let reads = reads();
-            let packets = pack(&reads, password).expect("packets");
-            assert!(packets.len() > 1);
-            for pair in packets.windows(2) {
-                let one_more = [pair[0], &pair[1][..1]].concat();
-                assert!(is_answered(pair[0], password) && !is_answered(&one_more, password));
+            for unit_type in UnitType::ALL {
+                check_reads(unit_type, password);
             }
+        }
+    }
+
+    fn check_reads(unit_type: UnitType, password: &[u8]) {
+        let reads = reads_of(unit_type);
+        let packets = super::pack(unit_type, &reads, password).expect("packets");
+        assert!(packets.len() > 1);
+        for pair in packets.windows(2) {
+            let one_more = [pair[0], &pair[1][..1]].concat();
+            assert!(is_answered_by(unit_type, pair[0], password));
+            assert!(!is_answered_by(unit_type, &one_more, password));
         }
     }
 

@@ -7,6 +7,7 @@ use crate::entry;
 use crate::escape;
 use crate::fields::{self, Field};
 use crate::hex;
+use crate::unit_type::UnitType;
 
 #[derive(Clone, Copy)]
 pub enum Reading {
@@ -21,6 +22,8 @@ pub enum Reading {
     Text,
     /// A board's ID.
     Identity,
+    /// A unit type, with its product.
+    Product,
     /// An entry of the weekly schedule.
     Entry,
     Hex,
@@ -33,10 +36,20 @@ pub const PERCENT: Reading = Number("%", &[]);
 pub const MINUTES: Reading = Number("min", &[]);
 pub const HOURS: Reading = Number("h", &[]);
 pub const DAYS: Reading = Number("d", &[]);
+pub const MILLIVOLTS: Reading = Number("mV", &[]);
+pub const TURNS: Reading = Number("rpm", &[]);
 pub const DEGREES: Reading = Number(CELSIUS, &[]);
 pub const DEGREES_OR_NONE: Reading = Number(CELSIUS, &[(0, "ventilation only")]);
 pub const SPEED: Reading = Number("", &[(0, "standby")]);
+pub const MANUAL_OR_SPEED: Reading = Number("", &[(255, "manual")]);
 pub const SWITCH: Reading = Number("", &[(0, "off"), (1, "on")]);
+pub const NIGHT_OR_PARTY: Reading = Number("", &[(0, "off"), (1, "night"), (2, "party")]);
+pub const OPERATION: Reading = Number(
+    "",
+    &[(0, "ventilation"), (1, "heat recovery"), (2, "supply")],
+);
+pub const SETPOINT_STATUS: Reading = Number("", &[(0, "below setpoint"), (1, "over setpoint")]);
+pub const ALARM: Reading = Number("", &[(0, "no"), (1, "alarm"), (2, "warning")]);
 pub const SENSOR: Reading = Number(
     "",
     &[
@@ -47,6 +60,7 @@ pub const SENSOR: Reading = Number(
 );
 pub const HEATER: Reading = Number("", &[(0, "off"), (1, "electric")]);
 pub const FILTER: Reading = Number("", &[(0, "clean"), (3, "replacement timer activated")]);
+pub const FILTER_INDICATOR: Reading = Number("", &[(0, "not required"), (1, "replace filter")]);
 pub const PRESENCE: Reading = Number("", &[(0, "not available"), (1, "available")]);
 pub const WIFI_MODE: Reading = Number("", &[(1, "client"), (2, "access point")]);
 pub const ENCRYPTION: Reading = Number(
@@ -61,8 +75,10 @@ pub const ENCRYPTION: Reading = Number(
 pub const CONNECTION: Reading = Number("", &[(0, "not connected"), (1, "connected")]);
 pub const BACKLIGHT: Reading = Number("", &[(0, "static"), (1, "dynamic")]);
 pub const TIME: Reading = Fields(&fields::TIME, "HH:MM:SS");
+pub const SHORT_TIME: Reading = Fields(&fields::SHORT_TIME, "HH:MM");
 pub const COUNTDOWN: Reading = Fields(&fields::COUNTDOWN, "1h02m03s");
-pub const LONG_COUNTDOWN: Reading = Fields(&fields::LONG_COUNTDOWN, "364d23h59m");
+pub const DURATION: Reading = Fields(&fields::DURATION, "180d23h59m");
+pub const LONG_DURATION: Reading = Fields(&fields::LONG_DURATION, "364d23h59m");
 pub const ADDRESS: Reading = Fields(&fields::ADDRESS, "192.168.4.1");
 pub const FIRMWARE: Reading = Fields(&fields::FIRMWARE, "1.12 2021-03-04");
 
@@ -102,6 +118,7 @@ impl Reading {
             Reading::Date => calendar::show(bytes).map(Shown::Text),
             Reading::Text => Some(Shown::Text(escape::printable(bytes))),
             Reading::Identity => Some(Shown::Text(escape::identity(bytes))),
+            Reading::Product => show_product(bytes),
             Reading::Entry => entry::Entry::of(bytes).map(Shown::Entry),
             Reading::Hex => None,
         };
@@ -119,6 +136,7 @@ impl Reading {
             }
             Reading::Date => calendar::parse(text).ok(),
             Reading::Text => Some(text.as_bytes().to_vec()),
+            Reading::Product => parse_product(text, size),
             Reading::Identity | Reading::Entry | Reading::Hex => None,
         }
     }
@@ -140,18 +158,24 @@ impl Reading {
             Reading::Date => String::from("2026-01-31"),
             Reading::Text => String::from("text"),
             Reading::Identity => String::from("ID"),
+            Reading::Product => String::from("number"),
             Reading::Entry => String::from("schedule"),
             Reading::Hex => String::from("bytes"),
         }
     }
 }
 
+/// One or two bytes, low byte first.
+fn number_of(bytes: &[u8]) -> Option<u16> {
+    match *bytes {
+        [low] => Some(u16::from(low)),
+        [low, high] => Some(u16::from_le_bytes([low, high])),
+        _ => None,
+    }
+}
+
 fn show_number(unit: &'static str, names: &[(u16, &str)], bytes: &[u8]) -> Option<Shown> {
-    let number = match *bytes {
-        [low] => u16::from(low),
-        [low, high] => u16::from_le_bytes([low, high]),
-        _ => return None,
-    };
+    let number = number_of(bytes)?;
     let named = name_of(names, number).map(Shown::Text);
     Some(named.unwrap_or_else(|| Shown::Number(number.to_string(), unit)))
 }
@@ -173,6 +197,21 @@ fn number_form(unit: &str, names: &[(u16, &str)]) -> String {
         forms.push(format!("number {unit}").trim_end().to_string());
     }
     forms.join("|")
+}
+
+/// A type that none of the guides has is a number.
+fn show_product(bytes: &[u8]) -> Option<Shown> {
+    match UnitType::of(number_of(bytes)?) {
+        Some(unit_type) => Some(Shown::Text(unit_type.words())),
+        None => show_number("", &[], bytes),
+    }
+}
+
+fn parse_product(text: &str, size: usize) -> Option<Vec<u8>> {
+    let mut all = UnitType::ALL.into_iter();
+    let named = all.find(|unit_type| unit_type.words() == text);
+    let digits = named.map(|unit_type| unit_type.number().to_string());
+    parse_number("", &[], digits.as_deref().unwrap_or(text), size)
 }
 
 fn show_tenths(bytes: &[u8]) -> Option<Shown> {
@@ -272,12 +311,39 @@ mod tests {
     }
 
     #[test]
+    fn readings_of_the_vento_expert_go_both_ways() {
+        for (reading, bytes, text) in [
+            (MANUAL_OR_SPEED, &[3][..], "3"),
+            (MANUAL_OR_SPEED, &[255], "manual"),
+            (NIGHT_OR_PARTY, &[2], "party"),
+            (OPERATION, &[1], "heat recovery"),
+            (SETPOINT_STATUS, &[1], "over setpoint"),
+            (ALARM, &[0], "no"),
+            (ALARM, &[2], "warning"),
+            (FILTER_INDICATOR, &[1], "replace filter"),
+            (MILLIVOLTS, &[0x88, 0x13], "5000 mV"),
+            (TURNS, &[0x2A, 0x05], "1322 rpm"),
+            (Reading::Product, &[2, 0], "2 Micra 100 WiFi"),
+            (Reading::Product, &[5, 0], "5 VENTO Expert A30"),
+            (Reading::Product, &[6, 0], "6"),
+            (Reading::Product, &[3, 1], "259"),
+            (SHORT_TIME, &[30, 8], "08:30"),
+            (DURATION, &[59, 23, 181], "181d23h59m"),
+            (LONG_DURATION, &[59, 23, 0xFF, 0xFF], "65535d23h59m"),
+        ] {
+            both_ways(reading, bytes, text);
+        }
+    }
+
+    #[test]
     fn a_unit_may_be_left_out() {
         for (reading, size, text, bytes) in [
             (DEGREES, 1, "21", &[21][..]),
             (DEGREES, 1, "21degC", &[21]),
             (PERCENT, 1, "70%", &[70]),
             (DAYS, 2, "70", &[70, 0]),
+            (MILLIVOLTS, 2, "3000mV", &[0xB8, 0x0B]),
+            (Reading::Product, 2, "4", &[4, 0]),
             (Reading::Tenths, 2, "-5", &[0xCE, 0xFF]),
             (Reading::Tenths, 2, "+21.5", &[0xD7, 0]),
         ] {
@@ -304,6 +370,8 @@ mod tests {
         for (reading, bytes, text) in [
             (Reading::Hex, &[1, 0xAB][..], "0x01AB"),
             (TIME, &[60, 0, 0], "0x3C0000"),
+            (SHORT_TIME, &[60, 0], "0x3C00"),
+            (DURATION, &[0, 24, 0], "0x001800"),
             (Reading::Date, &[4, 0x85, 0x37, 0x42], "0x04853742"),
             (FIRMWARE, &[0; 6], "0x000000000000"),
             (Reading::Text, b"\x1B[2J", "\\x1B[2J"),

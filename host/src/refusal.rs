@@ -23,6 +23,7 @@ impl Refusal {
             20 => "ID has not 16 bytes, or is DEFAULT_DEVICEID",
             21 => "password over 8 characters, or not of 0-9, a-z, A-Z",
             22 => "mode is neither client nor access point",
+            23 => "unit type is not 2 to 5",
             30 => "not a row that can be measured",
             31 => "not the row's length",
             40 => "ID has not 16 bytes",

@@ -61,6 +61,7 @@ mod tests {
     use super::*;
     use crate::packing;
     use crate::questions;
+    use crate::unit_type::UnitType;
 
     #[test]
     fn lines_are_reports_and_reports_are_lines() {
@@ -86,16 +87,22 @@ mod tests {
         }
     }
 
-    /// Every row and an unknown one, as the library lists them.
+    /// Every row of every unit type and an unknown one, as the library lists them.
     #[test]
     fn reports_have_the_lines_of_the_listing() {
+        for unit_type in UnitType::ALL {
+            check_listing(unit_type);
+        }
+    }
+
+    fn check_listing(unit_type: UnitType) {
         let id = b"002D6E1B34565815";
-        let Ok(mut board) = ffi::set_up(id, b"", 1) else {
+        let Ok(mut board) = ffi::set_up(id, b"", 1, unit_type.number()) else {
             panic!("this board is set up");
         };
-        let mut commands = questions::reads(&["all"]).expect("all rows");
+        let mut commands = questions::reads(unit_type, &["all"]).expect("all rows");
         commands.push(questions::read(0x0101));
-        for commands in packing::pack(&commands, b"").expect("packets") {
+        for commands in packing::pack(unit_type, &commands, b"").expect("packets") {
             let request = ffi::write(id, b"", commands).expect("a request");
             let ffi::Answer::Response(response) = ffi::packet(&mut board, &request) else {
                 panic!("no response");

@@ -7,20 +7,27 @@ use crate::boards::Unit;
 use crate::ffi::{Command, READ};
 use crate::format::Format;
 use crate::packing;
+use crate::refusal::Refusal;
 use crate::target;
 
 #[derive(Debug)]
 pub struct Request {
-    pub units: Vec<Unit>,
+    pub questions: Vec<Question>,
     /// About the file of boards.
     pub warning: Option<String>,
     pub kind: Kind,
-    pub commands: Vec<Command>,
     pub limit: Duration,
     pub retries: u32,
     pub dump: bool,
     pub format: Format,
     pub raw: Option<Raw>,
+}
+
+/// What one board is asked: the same words are other commands to a board of another unit type.
+#[derive(Debug)]
+pub struct Question {
+    pub unit: Unit,
+    pub commands: Vec<Command>,
 }
 
 #[derive(Clone, Copy, Debug, PartialEq, Eq)]
@@ -39,18 +46,32 @@ pub enum Raw {
     File(PathBuf),
 }
 
+impl Question {
+    fn is_change(&self) -> bool {
+        self.commands.iter().any(|command| command.function != READ)
+    }
+
+    /// In one packet, and its reports in one response.
+    fn fits(&self) -> bool {
+        let unit = &self.unit;
+        packing::fits(unit.unit_type, &self.commands, &unit.password)
+    }
+
+    /// The commands joined in packets.
+    pub fn packets(&self) -> Result<Vec<&[Command]>, Refusal> {
+        let unit = &self.unit;
+        packing::pack(unit.unit_type, &self.commands, &unit.password)
+    }
+}
+
 impl Request {
     pub fn is_change(&self) -> bool {
-        self.commands.iter().any(|command| command.function != READ)
+        self.questions.iter().any(Question::is_change)
     }
 
     /// Whether the request can be sent as it is meant; if not, why.
     pub fn check(&self) -> Result<(), String> {
-        let packets = |unit: &Unit| {
-            packing::pack(&self.commands, &unit.password).map_or(0, |packets| packets.len())
-        };
-        let fits = |unit: &Unit| packing::fits(&self.commands, &unit.password);
-        if self.is_change() && !self.units.iter().all(fits) {
+        if self.is_change() && !self.questions.iter().all(Question::fits) {
             return Err(String::from(
                 "these changes do not fit one packet of 256 bytes, or their response does not: ask for fewer at a time",
             ));
@@ -59,8 +80,12 @@ impl Request {
             return Ok(());
         }
         let every = |unit: &Unit| self.kind == Kind::Search && target::is_broadcast(&unit.host);
-        match &self.units[..] {
-            [unit] if every(unit) || packets(unit) > 1 => Err(String::from(
+        let is_many = |question: &Question| {
+            let packets = question.packets();
+            every(&question.unit) || packets.is_ok_and(|packets| packets.len() > 1)
+        };
+        match &self.questions[..] {
+            [question] if is_many(question) => Err(String::from(
                 "--raw keeps one response, and here are more: ask one host for less",
             )),
             [_] => Ok(()),

@@ -6,6 +6,7 @@ use std::time::Duration;
 
 use crate::datagram;
 use crate::ffi::{self, Answer, Board};
+use crate::unit_type::UnitType;
 
 /// How long a wait for a packet lasts before a signal is looked for.
 const WAIT: Duration = Duration::from_millis(100);
@@ -15,6 +16,7 @@ pub struct Settings {
     pub id: Vec<u8>,
     pub password: Vec<u8>,
     pub mode: u8,
+    pub unit_type: UnitType,
     pub listen: SocketAddr,
     /// Values measured before the first packet.
     pub measured: Vec<(u16, Vec<u8>)>,
@@ -48,7 +50,12 @@ pub fn run(settings: &Settings, stop: impl Fn() -> bool) -> Result<(), String> {
 }
 
 fn make_board(settings: &Settings) -> Result<Board, String> {
-    let board = ffi::set_up(&settings.id, &settings.password, settings.mode);
+    let board = ffi::set_up(
+        &settings.id,
+        &settings.password,
+        settings.mode,
+        settings.unit_type.number(),
+    );
     let mut board = board.map_err(|refusal| format!("the set-up is {refusal}"))?;
     for (number, value) in &settings.measured {
         board = ffi::measure(board, *number, value)

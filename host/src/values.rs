@@ -3,6 +3,7 @@
 use crate::entry;
 use crate::hex;
 use crate::rows::{self, Access, Row, Size};
+use crate::unit_type::UnitType;
 
 /// The longest value that a command can carry.
 const LONGEST: usize = 255;
@@ -10,43 +11,43 @@ const LONGEST: usize = 255;
 /// What inverts a switch that can be inverted.
 pub const INVERT: u8 = 2;
 
-/// `ROW=VALUE`: the number, and the value's bytes as a write sends them.
-pub fn parse_assignment(text: &str) -> Result<(u16, Vec<u8>), String> {
-    let (number, value) = split(text)?;
-    Ok((number, parse_value(number, value)?))
+/// `ROW=VALUE`: the number, and the value's bytes as a write to a board of the unit type sends them.
+pub fn parse_assignment(unit_type: UnitType, text: &str) -> Result<(u16, Vec<u8>), String> {
+    let (number, value) = split(unit_type, text)?;
+    Ok((number, parse_value(unit_type, number, value)?))
 }
 
 /// `ROW=VALUE`, a measured value. Rows of two bytes and more also take their bytes without 0x, which no other form looks like.
-pub fn parse_measurement(text: &str) -> Result<(u16, Vec<u8>), String> {
-    let (number, value) = split(text)?;
+pub fn parse_measurement(unit_type: UnitType, text: &str) -> Result<(u16, Vec<u8>), String> {
+    let (number, value) = split(unit_type, text)?;
     let bytes = hex::parse(value).filter(|bytes| bytes.len() > 1);
-    match (bytes, rows::find(number)) {
+    match (bytes, rows::find(unit_type, number)) {
         (Some(bytes), Some(row)) if row.size == Size::Bytes(bytes.len()) => Ok((number, bytes)),
-        _ => Ok((number, parse_value(number, value)?)),
+        _ => Ok((number, parse_value(unit_type, number, value)?)),
     }
 }
 
-fn split(text: &str) -> Result<(u16, &str), String> {
+fn split(unit_type: UnitType, text: &str) -> Result<(u16, &str), String> {
     let Some((row, value)) = text.split_once('=') else {
         return Err(format!("`{text}` has no value: write ROW=VALUE"));
     };
-    Ok((rows::parse_number(row)?, value))
+    Ok((rows::parse_number(unit_type, row)?, value))
 }
 
-fn parse_value(number: u16, text: &str) -> Result<Vec<u8>, String> {
+fn parse_value(unit_type: UnitType, number: u16, text: &str) -> Result<Vec<u8>, String> {
     if let Some(digits) = text.strip_prefix("0x") {
         return parse_bytes(digits);
     }
     if let Some(characters) = text.strip_prefix("text:") {
         return sized(characters.as_bytes().to_vec());
     }
-    if number == entry::NUMBER {
+    if rows::is_schedule(unit_type, number) {
         return Err(String::from(entry::HINT));
     }
-    match rows::find(number) {
+    match rows::find(unit_type, number) {
         Some(row) => parse_reading(row, text),
         None => Err(format!(
-            "0x{number:04X} is no row of `udgornwy rows`: write its bytes, like 0x4600"
+            "0x{number:04X} is no row of {unit_type}: write its bytes, like 0x4600"
         )),
     }
 }
@@ -82,16 +83,14 @@ fn parse_reading(row: &Row, text: &str) -> Result<Vec<u8>, String> {
         )
     };
     let reason = row.reading.objection(text).unwrap_or_else(forms);
-    Err(format!(
-        "`{text}` is no value of {}: {reason}",
-        rows::title(row.number)
-    ))
+    Err(format!("`{text}` is no value of {}: {reason}", row.title()))
 }
 
 #[cfg(test)]
 mod tests {
     use super::*;
-    use crate::rows::ROWS;
+
+    const MICRA: UnitType = UnitType::Micra;
 
     #[test]
     fn values_are_readings_bytes_or_text() {
@@ -120,7 +119,7 @@ mod tests {
             ("0x0101=0x07", 0x101, &[7]),
         ] {
             assert_eq!(
-                parse_assignment(text),
+                parse_assignment(MICRA, text),
                 Ok((number, value.to_vec())),
                 "{text}"
             );
@@ -154,11 +153,11 @@ mod tests {
             "nothing=1",
             "0x0002=99999999999999999999",
         ] {
-            assert!(parse_assignment(bad).is_err(), "{bad}");
+            assert!(parse_assignment(MICRA, bad).is_err(), "{bad}");
         }
         let long = |count| format!("0x0095=0x{}", "41".repeat(count));
-        assert!(parse_assignment(&long(255)).is_ok());
-        assert!(parse_assignment(&long(256)).is_err());
+        assert!(parse_assignment(MICRA, &long(255)).is_ok());
+        assert!(parse_assignment(MICRA, &long(256)).is_err());
     }
 
     #[test]
@@ -177,7 +176,7 @@ mod tests {
             ("wifi-current-ip-address=10.0.0.7", 0xA3, &[10, 0, 0, 7]),
         ] {
             assert_eq!(
-                parse_measurement(text),
+                parse_measurement(MICRA, text),
                 Ok((number, value.to_vec())),
                 "{text}"
             );
@@ -189,29 +188,97 @@ mod tests {
             "boost-mode=0A",
             "0x0111=7",
         ] {
-            assert!(parse_measurement(bad).is_err(), "{bad}");
+            assert!(parse_measurement(MICRA, bad).is_err(), "{bad}");
+        }
+    }
+
+    /// The same row of another unit type may take other values.
+    #[test]
+    fn values_go_by_the_unit_type() {
+        let (expert, a30) = (UnitType::ExpertA50, UnitType::ExpertA30);
+        for (text, number, value) in [
+            ("speed-mode=manual", 0x02, &[255][..]),
+            ("speed-mode=3", 0x02, &[3]),
+            ("night-party-timer=party", 0x07, &[2]),
+            ("night-timer-setpoint=08:30", 0x302, &[30, 8]),
+            ("0x0303=23:59", 0x303, &[59, 23]),
+            ("humidity-threshold=60%", 0x19, &[60]),
+            ("supply-fan-level-1=255", 0x3A, &[255]),
+            ("ventilator-operation-mode=heat recovery", 0xB7, &[1]),
+            ("relay-sensor-activation=invert", 0x14, &[2]),
+            ("filter-replacement-timer=71", 0x63, &[71, 0]),
+        ] {
+            let parsed = parse_assignment(expert, text);
+            assert_eq!(parsed, Ok((number, value.to_vec())), "{text}");
+        }
+        for (unit_type, bad) in [
+            (MICRA, "speed-mode=manual"),
+            (MICRA, "0x0007=party"),
+            (MICRA, "humidity-threshold=60"),
+            (expert, "night-party-timer=invert"),
+            (expert, "0x0007=on"),
+            (expert, "night-timer-setpoint=08:30:00"),
+            (expert, "supply-fan-level-1=70%"),
+            (expert, "supply-fan-speed-1=70"),
+            (expert, "0x0077=1"),
+            (a30, "filter-replacement-timer=71"),
+            (a30, "0x0063=71"),
+        ] {
+            assert!(parse_assignment(unit_type, bad).is_err(), "{bad}");
+        }
+        let error = parse_assignment(a30, "0x0063=71").expect_err("no row");
+        assert!(error.starts_with("0x0063 is no row of type 5 (VENTO Expert A30): "));
+    }
+
+    #[test]
+    fn measured_values_go_by_the_unit_type() {
+        for (text, number, value) in [
+            ("humidity=55 %", 0x25, &[55][..]),
+            ("rtc-battery-voltage=3000 mV", 0x24, &[0xB8, 0x0B]),
+            ("fan-1-speed=1322 rpm", 0x4A, &[0x2A, 5]),
+            ("machine-hours=400d05h06m", 0x7E, &[6, 5, 0x90, 1]),
+            (
+                "filter-replacement-countdown=180d23h59m",
+                0x64,
+                &[59, 23, 180],
+            ),
+            ("0x0064=3B17B4", 0x64, &[59, 23, 180]),
+            ("alarm-indicator=warning", 0x83, &[2]),
+            ("humidity-sensor-status=over setpoint", 0x304, &[1]),
+        ] {
+            let parsed = parse_measurement(UnitType::ExpertA30, text);
+            assert_eq!(parsed, Ok((number, value.to_vec())), "{text}");
+            let micra = parse_measurement(MICRA, text);
+            assert_ne!(micra, Ok((number, value.to_vec())), "{text}");
         }
     }
 
     /// What is shown can be written: each byte, in every place of every row.
     #[test]
     fn what_is_shown_is_taken() {
-        for row in ROWS.iter().filter(|row| row.number != entry::NUMBER) {
-            for size in [*row.size.range().start(), *row.size.range().end()] {
-                for byte in 0..=255 {
-                    let mut bytes = vec![b'1'; size];
-                    bytes[usize::from(byte) % size] = byte;
-                    let shown = row.reading.show(&bytes).to_string();
-                    let is_escaped = shown.contains('\\');
-                    let is_identity = row.number == 0x007C;
-                    let taken = parse_value(row.number, &shown);
-                    assert!(
-                        is_escaped || is_identity || taken == Ok(bytes),
-                        "{}: {shown}",
-                        row.name
-                    );
+        for unit_type in UnitType::ALL {
+            let rows = rows::of(unit_type).filter(|row| row.number != entry::NUMBER);
+            for row in rows {
+                for size in [*row.size.range().start(), *row.size.range().end()] {
+                    assert_shown_is_taken(unit_type, row, size);
                 }
             }
+        }
+    }
+
+    fn assert_shown_is_taken(unit_type: UnitType, row: &Row, size: usize) {
+        for byte in 0..=255 {
+            let mut bytes = vec![b'1'; size];
+            bytes[usize::from(byte) % size] = byte;
+            let shown = row.reading.show(&bytes).to_string();
+            let is_escaped = shown.contains('\\');
+            let is_identity = row.number == 0x007C;
+            let taken = parse_value(unit_type, row.number, &shown);
+            assert!(
+                is_escaped || is_identity || taken == Ok(bytes),
+                "{}: {shown}",
+                row.name
+            );
         }
     }
 }

@@ -200,6 +200,30 @@ fn a_wrong_file_is_refused_with_the_line() {
 }
 
 #[test]
+fn a_fifth_field_that_is_no_unit_type_is_refused_with_the_line() {
+    let right = line("flat", NOBODY);
+    for (text, reason) in [
+        (
+            format!("{right}flat-2 h {ID} 1111 secret"),
+            "line 2: the fifth field is no unit type, which is 2 to 5",
+        ),
+        (
+            format!("flat-2 h {ID} 1111 6"),
+            "line 1: the fifth field is no unit type, which is 2 to 5",
+        ),
+        (
+            format!("flat-2 h {ID} 1111 3 secret"),
+            "line 1: a board has a name",
+        ),
+    ] {
+        let boards = file("boards-wrong-type", &text);
+        let output = asked_by_name(&boards, "get", &["--board", "all", "0x0002"]);
+        failed(&output, 2, reason);
+        assert!(!errors(&output).contains("secret"));
+    }
+}
+
+#[test]
 fn options_that_do_not_go_with_a_file_are_refused() {
     let boards = file("boards-options", &line("flat", NOBODY));
     let asked = |more: &[&str]| asked_by_name(&boards, "get", more);
@@ -212,6 +236,10 @@ fn options_that_do_not_go_with_a_file_are_refused() {
         (
             asked(&["--board", "flat", "--id", ID, "0x0002"]),
             "--id is not wanted",
+        ),
+        (
+            asked(&["--board", "flat", "--type", "3", "0x0002"]),
+            "--type is not wanted",
         ),
         (
             run(&["get", "--board", "flat", "0x0002"]),
@@ -227,4 +255,81 @@ fn options_that_do_not_go_with_a_file_are_refused() {
     // Named twice, it is one board, of which one response is kept.
     let raw = ["--board", "flat", "--board", "all", "--raw", "-", "0x0002"];
     failed(&asked(&raw), 1, "flat: nobody listens on");
+}
+
+/// A Micra without a fifth field, and a board of each type with one.
+fn boards_of_every_type(name: &str) -> (Vec<Board>, String) {
+    let mut boards = vec![Board::client()];
+    let mut lines = line("plain", &boards[0].host());
+    for number in ["2", "3", "4", "5"] {
+        let board = Board::of_type(number, &[]);
+        let fields = line(&format!("type-{number}"), &board.host());
+        lines += &format!("{}\t{number}\n", fields.trim_end());
+        boards.push(board);
+    }
+    (boards, file(name, &lines))
+}
+
+#[test]
+fn a_fifth_field_is_the_unit_type() {
+    let (_boards, file) = boards_of_every_type("boards-types");
+    for (name, count) in [
+        ("plain", 72 + 28),
+        ("type-2", 72 + 28),
+        ("type-3", 50),
+        ("type-4", 43),
+        ("type-5", 39),
+    ] {
+        let output = asked_by_name(&file, "get", &["--board", name, "all"]);
+        assert_eq!(listing(&output).lines().count(), 1 + count, "{name}");
+        assert_eq!(errors(&output), "");
+    }
+    let experts = [
+        "--board", "type-3", "--board", "type-4", "--board", "type-5",
+    ];
+    let more = [&experts[..], &["--format", "json", "humidity"]].concat();
+    let json = listing(&asked_by_name(&file, "get", &more));
+    for name in ["type-3", "type-4", "type-5"] {
+        let members = format!("\"board\":\"{name}\",\"id\":\"{ID}\",\"number\":\"0x0025\",\"name\":\"humidity\",\"value\":0,\"unit\":\"%\"");
+        assert!(json.contains(&members), "{json}");
+    }
+}
+
+/// The same words are asked of boards of several types, each by its own rows.
+#[test]
+fn boards_of_several_types_are_asked_at_once() {
+    let (_boards, file) = boards_of_every_type("boards-several-types");
+    let set = asked_by_name(
+        &file,
+        "set",
+        &["--board", "all", "unit-on-off=on", "speed-mode=3"],
+    );
+    assert_eq!(listing(&set).matches("0x0001,01\n0x0002,03\n").count(), 5);
+    let all = listing(&asked_by_name(&file, "get", &["--board", "all", "all"]));
+    assert_eq!(all.lines().count(), 5 * 2 + 2 * 100 + 50 + 43 + 39);
+    let countdown = ["--board", "all", "filter-replacement-countdown"];
+    let countdown = listing(&asked_by_name(&file, "get", &countdown));
+    assert_eq!(countdown.matches("0x0064,00000000\n").count(), 2);
+    assert_eq!(countdown.matches("0x0064,000000\n").count(), 3);
+}
+
+/// Nothing is sent to any of them.
+#[test]
+fn what_one_of_the_types_lacks_is_told_with_the_board() {
+    let silent = open_socket();
+    let lines = [
+        line("micra", &address(&silent)),
+        line("expert", &address(&silent)).trim_end().to_string() + " 4\n",
+    ];
+    let boards = file("boards-lacking", &lines.concat());
+    for (command, words, reason) in [
+        ("get", &["humidity"][..], "micra: `humidity` is no row of type 2 (Micra 100 WiFi): it is one of types 3, 4 and 5"),
+        ("raise", &["filter-replacement-timer"], "expert: `filter-replacement-timer` is no row of type 4 (VENTO Expert Duo A30-1): it is one of types 2 and 3"),
+        ("set", &["speed-mode=manual"], "micra: `manual` is no value of speed-mode (0x0002)"),
+        ("schedule", &["get"], "expert: type 4 (VENTO Expert Duo A30-1) has no weekly schedule"),
+    ] {
+        let output = asked_by_name(&boards, command, &[&["--board", "all"], words].concat());
+        failed(&output, 2, reason);
+    }
+    assert_nothing_came(&silent);
 }

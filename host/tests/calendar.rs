@@ -3,6 +3,7 @@
 #[path = "../../reference/tests/dates/mod.rs"]
 mod dates;
 
+use std::collections::BTreeSet;
 use std::fmt::Write;
 
 use udgornwy::calendar;
@@ -11,6 +12,8 @@ use udgornwy::ffi::{self, Answer, Command};
 const ID: &[u8] = b"002D6E1B34565815";
 const PASSWORD: &[u8] = b"1111";
 const CLIENT: u8 = 1;
+/// A unit type of each product.
+const UNITS: [u8; 2] = [2, 5];
 
 /// The calendar's number, and how many writes of it go into a packet.
 const NUMBER: u16 = 0x0070;
@@ -20,7 +23,13 @@ const WRITES: usize = 30;
 fn a_board_stores_every_date_and_nothing_else() {
     let dates = dates::all();
     let values: Vec<[u8; 4]> = dates::candidates().collect();
-    let mut board = ffi::set_up(ID, PASSWORD, CLIENT).expect("a board");
+    for unit in UNITS {
+        check_board(unit, &dates, &values);
+    }
+}
+
+fn check_board(unit: u8, dates: &BTreeSet<[u8; 4]>, values: &[[u8; 4]]) {
+    let mut board = ffi::set_up(ID, PASSWORD, CLIENT, unit).expect("a board");
     let mut held = [1, 6, 1, 0];
     for values in values.chunks(WRITES) {
         let writes: Vec<Command> = values

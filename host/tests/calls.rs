@@ -17,6 +17,9 @@ const CAPTURE_CALLS: [&str; 6] = [
     "capread", "capwrite", "summary", "rewrite", "export", "import",
 ];
 
+/// The unit type of a set-up that names none.
+const MICRA: &str = "2";
+
 /// The board as the calls so far left it; none where a poke has changed it.
 struct Session(Option<Board>);
 
@@ -25,7 +28,8 @@ impl Session {
     fn answer(&mut self, line: &str) -> Option<String> {
         let fields: Vec<&str> = line.split(' ').collect();
         match fields[..] {
-            ["setup", id, password, mode] => Some(self.set_up(id, password, mode)),
+            ["setup", id, password, mode] => Some(self.set_up(id, password, mode, MICRA)),
+            ["setup", id, password, mode, unit] => Some(self.set_up(id, password, mode, unit)),
             ["packet", room, packet] if has_room(room) => self.packet(packet),
             ["measure", number, value] => self.measure(number, value),
             ["write", room, id, password, ref commands @ ..] if has_room(room) => {
@@ -49,9 +53,10 @@ impl Session {
         }
     }
 
-    fn set_up(&mut self, id: &str, password: &str, mode: &str) -> String {
+    fn set_up(&mut self, id: &str, password: &str, mode: &str, unit: &str) -> String {
         let mode = mode.parse().expect("a mode");
-        let board = ffi::set_up(&bytes(id), &bytes(password), mode);
+        let unit = unit.parse().expect("a unit type");
+        let board = ffi::set_up(&bytes(id), &bytes(password), mode, unit);
         let answer = verdict(board.as_ref().err());
         self.0 = Some(board.unwrap_or_else(|_| unset()));
         answer
@@ -98,7 +103,7 @@ fn list(packet: &str) -> String {
 
 /// The board of a refused set-up.
 fn unset() -> Board {
-    match ffi::set_up(&[0; 16], b"", 1) {
+    match ffi::set_up(&[0; 16], b"", 1, 2) {
         Ok(board) => board,
         Err(refusal) => panic!("the zero board is {refusal}"),
     }

@@ -7,12 +7,11 @@ use std::net::{SocketAddr, UdpSocket};
 use std::process::Output;
 use std::thread;
 use std::time::Instant;
-use udgornwy::entry::NUMBER;
 use udgornwy::exchange::Exchange;
 use udgornwy::ffi::DEFAULT_ID;
 use udgornwy::questions;
-use udgornwy::rows::ROWS;
 use udgornwy::target::Target;
+use udgornwy::unit_type::UnitType;
 
 #[test]
 fn the_guides_read_is_sent_and_its_response_kept_and_listed() {
@@ -66,32 +65,11 @@ fn values_are_set_raised_and_lowered() {
 }
 
 #[test]
-fn every_row_of_the_table_exists_with_its_size() {
-    let board = Board::client();
-    // The schedule is read by day and period.
-    let rows = ROWS.iter().filter(|row| row.number != NUMBER);
-    for some in rows.collect::<Vec<_>>().chunks(8) {
-        let names: Vec<&str> = some.iter().map(|row| row.name).collect();
-        let listing = board.listed("get", &names);
-        assert_eq!(listing.lines().count(), 1 + names.len());
-        for (row, line) in some.iter().zip(listing.lines().skip(1)) {
-            let digits = line
-                .strip_prefix(&format!("0x{:04X},", row.number))
-                .expect("the row");
-            let length = digits.len() / 2;
-            assert_eq!(length, *row.size.range().start(), "{line}");
-        }
-    }
-}
-
-#[test]
 fn a_search_lists_the_id_and_the_unit_type() {
     let board = Board::client();
     let listed = listing(&run(&["search", "--host", &board.host()]));
-    assert_eq!(
-        listed,
-        "number,value\n0x007C,30303244364531423334353635383135\n0x00B9,0200\n"
-    );
+    let identity = "number,value\n0x007C,30303244364531423334353635383135\n0x00B9,0200\n";
+    assert_eq!(listed, identity);
 }
 
 #[test]
@@ -197,6 +175,7 @@ fn a_search_hears_several_boards() {
             address: addresses[0],
             every: true,
         },
+        unit_type: UnitType::default(),
         id: &DEFAULT_ID,
         password: b"",
         limit: std::time::Duration::from_millis(500),

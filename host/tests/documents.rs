@@ -3,6 +3,9 @@
 mod common;
 
 use common::*;
+use udgornwy::entry::NUMBER;
+use udgornwy::rows;
+use udgornwy::unit_type::UnitType;
 
 /// The words of each command in a document.
 fn commands(text: &str) -> Vec<Vec<&str>> {
@@ -55,4 +58,27 @@ fn the_clients_page_shows_what_is_seen() {
     let json = board.listed("get", &["--format", "json", rows[1]]);
     let (_, members) = json.split_once("\"id\"").expect("an ID");
     assert!(page.contains(members), "{json}");
+}
+
+/// What the page shows of a VENTO Expert.
+#[test]
+fn the_clients_page_shows_what_is_seen_of_an_expert() {
+    let page = document("docs/CLIENT.md").replace("\n    ", "\n");
+    let board = Board::of_type("3", &[]);
+    let host = board.host();
+    let search = run(&["search", "--host", &host]);
+    assert!(page.contains(&(shown(&search) + &errors(&search))));
+    let table = listing(&run(&["search", "--host", &host, "--format", "table"]));
+    assert!(page.contains(&table), "{table}");
+    let lacking = asked(NOBODY, "get", &["--type", "5", "0-10v-sensor-signal"]);
+    assert!(page.contains(&errors(&lacking)), "{}", errors(&lacking));
+    for unit_type in UnitType::ALL {
+        let rows = rows::of(unit_type).filter(|row| row.number != NUMBER);
+        let (number, count) = (unit_type.number(), rows.count());
+        let line = page
+            .lines()
+            .find(|line| line.starts_with(&format!("| {number} |")));
+        let said = line.is_some_and(|line| line.contains(&format!(" | {count}")));
+        assert!(said, "{unit_type}");
+    }
 }

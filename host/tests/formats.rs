@@ -132,7 +132,9 @@ fn a_search_has_formats_too() {
     assert!(table.contains(&format!("device-search  0x007C  {ZERO_ID}  {ZERO_ID}\n")));
     let json = search("json");
     assert!(json.contains(&format!("\"id\":\"{ZERO_ID}\"")));
-    assert!(json.contains("\"name\":\"unit-type\",\"value\":2,\"unit\":null,\"raw\":\"0200\"}\n"));
+    let unit_type =
+        "\"name\":\"unit-type\",\"value\":\"2 Micra 100 WiFi\",\"unit\":null,\"raw\":\"0200\"}\n";
+    assert!(json.contains(unit_type), "{json}");
 }
 
 #[test]

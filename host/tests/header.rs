@@ -162,13 +162,33 @@ static void tables(const uint8_t *request, size_t size)
     read_table(whole, exported.length);
 }
 
+/* 0025 is a row of the VENTO Expert alone, and its 0064 has three bytes. No record is of type 6. */
+static void units(const uint8_t *id, const uint8_t *password)
+{
+    static const uint8_t types[] = {1, UDGORNWY_MICRA, UDGORNWY_EXPERT_A50, UDGORNWY_EXPERT_DUO, UDGORNWY_EXPERT_A30, 6, 255};
+    static const uint8_t value[] = {59, 23, 180};
+    printf("%u %u %u\n", (unsigned)offsetof(udgornwy_board, unit), (unsigned)offsetof(udgornwy_board, store),
+           (unsigned)offsetof(udgornwy_board, schedule));
+    for (size_t i = 0; i < sizeof types; i++) {
+        udgornwy_board board;
+        udgornwy_result made = udgornwy_set_up(id, UDGORNWY_ID, password, 1, UDGORNWY_CLIENT, types[i]);
+        unsigned humidity = udgornwy_measure(made.board, 0x0025, value, 1).refusal;
+        unsigned countdown = udgornwy_measure(made.board, 0x0064, value, sizeof value).refusal;
+        board = made.board;
+        board.unit = 6;
+        printf("%u: %u %u %u, %u %u, %u\n", types[i], made.refusal, made.board.unit, made.board.id[0], humidity, countdown,
+               udgornwy_measure(board, 0x0064, value, sizeof value).refusal);
+    }
+    printf("%u %u\n", udgornwy_set_up(id, UDGORNWY_ID, password, 1, 3, 6).refusal, udgornwy_set_up(id, 15, password, 1, 1, 6).refusal);
+}
+
 int main(void)
 {
     static const uint8_t id[UDGORNWY_ID] = {1}, password[] = {'1'}, functions[] = {2};
     static const uint8_t value[] = {UDGORNWY_DAYS, UDGORNWY_PERIODS, 5, 30, 59, 23};
     static const uint16_t numbers[] = {0x0077}, lengths[] = {sizeof value};
     uint8_t packet[UDGORNWY_LONGEST_PACKET], response[UDGORNWY_LONGEST_PACKET];
-    udgornwy_result result = udgornwy_set_up(id, sizeof id, password, sizeof password, UDGORNWY_CLIENT);
+    udgornwy_result result = udgornwy_set_up(id, sizeof id, password, sizeof password, UDGORNWY_CLIENT, UDGORNWY_MICRA);
     udgornwy_reply request = udgornwy_write(packet, sizeof packet, id, sizeof id, password, sizeof password,
                                             functions, 1, numbers, 1, lengths, 1, value, sizeof value);
     udgornwy_parts parts = udgornwy_parse(packet, request.length);
@@ -178,11 +198,26 @@ int main(void)
     printf("%d: %u %u %u, %u %u %u %u\n", (int)sizeof(udgornwy_board), result.refusal, request.refusal, answer.refusal,
            last.speed, last.temperature, last.minute, last.hour);
     printf("%u: %u %u, %u: %u\n", parts.refusal, packet[parts.places.id], (unsigned)parts.places.end, cut.refusal, (unsigned)cut.places.end);
+    units(id, password);
     captures(packet, request.length);
     tables(packet, request.length);
     return 0;
 }
 "#;
+
+/// Where the record has its unit type, its rows and its schedule; then for each type the refusal of its set-up, the record's type and its ID's first
+/// byte, the refusals of 0025 and 0064, and that of a record of no type; and which refusals come before 23.
+const UNITS: &str = "\
+26 27 254
+1: 23 2 0, 30 31, 70
+2: 0 2 1, 30 31, 70
+3: 0 3 1, 0 0, 70
+4: 0 4 1, 0 0, 70
+5: 0 5 1, 0 0, 70
+6: 23 2 0, 30 31, 70
+255: 23 2 0, 30 31, 70
+22 20
+";
 
 /// The capture: its length, its head, what it and the one of version 1 are rewritten as, its records, none in another version, and its summary.
 const CAPTURES: &str = "\
@@ -245,7 +280,8 @@ fn compiled(compiler: &str, language: &str, standard: &str) -> String {
 
 fn expected() -> String {
     let board = std::mem::size_of::<Board>();
-    format!("{board}: 0 0 0, 5 30 59 23\n0: 1 32, 4: 0\n{CAPTURES}{TABLES}")
+    assert_eq!(board, 366);
+    format!("{board}: 0 0 0, 5 30 59 23\n0: 1 32, 4: 0\n{UNITS}{CAPTURES}{TABLES}")
 }
 
 #[test]

@@ -58,6 +58,11 @@ impl Board {
         Board::start(ID, "client", &[])
     }
 
+    /// A board of a unit type.
+    pub fn of_type(number: &str, more: &[&str]) -> Board {
+        Board::start(ID, "client", &[&["--type", number], more].concat())
+    }
+
     pub fn host(&self) -> String {
         self.address.to_string()
     }
