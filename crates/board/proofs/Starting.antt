@@ -17,7 +17,6 @@ use Rattle.framing.specs.Refusal.{firstRefusal}
 use Rattle.rows.specs.Layout.{sizeOf}
 use Rattle.store.specs.Layout.{valueOf}
 use Rattle.store.specs.Sound as rows
-use Rattle.schedule.specs.Entries as entries
 use Rattle.store.specs.Operations.{measurable, measurement as measurementOf, refusalOf}
 use Rattle.rows.specs.Rows.{rowOf}
 use Rattle.store.specs.declared.Measurement.{Measurement}

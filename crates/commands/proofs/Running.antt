@@ -3,14 +3,14 @@ use Prim.Native.Nat.{ℕ, _<_, _≤_}
 use mathlib.Core.Bool.{Bool, true, false}
 use mathlib.Core.Logic.{_⊎_, inl, inr, ⊎-elim}
 use mathlib.Core.Path.{_≡_, sym, ap, _∙_}
-use borrow.Author.Tests.{eq-eqb, ne-eqb}
+use borrow.Author.Tests.{ne-eqb}
 use Rattle.octets.proofs.Booleans.{one-of-two}
 use Rattle.block.specs.Command.{Command, commandNumber}
 use Rattle.store.specs.declared.Store.{Store}
 use Rattle.rows.specs.Rows.{isIdentity}
 use Rattle.store.specs.Operations.{written, raised, lowered, answer}
 use Rattle.schedule.specs.Operations as entries
-use Rattle.schedule.specs.Operations.{scheduleNumber, answered}
+use Rattle.schedule.specs.Operations.{answered}
 use Rattle.schedule.specs.declared.Schedule.{Schedule}
 use Rattle.model.specs.Commands.{isSchedule, afterRow, afterEntry, afterCommand, rowReport, entryReport, reported}
 use Rattle.model.specs.Record.{parametersOf}

@@ -3,8 +3,9 @@ use Prim.Native.Nat.{ℕ, _-_}
 use mathlib.Core.Bool.{Bool, true, false, cond, not, _&&_, _||_, and-false, and-true, or-true}
 use mathlib.Core.List.{List, [], _∷_, _++_, append-assoc}
 use mathlib.Core.Option.{Option, none, some, Option·getD}
+use mathlib.Core.Logic.{⊎-elim}
 use mathlib.Core.Path.{_≡_, refl, sym, ap, subst, _∙_}
-use borrow.Author.Tests.{eq-eqb, eqb-true, not-true, not-false}
+use borrow.Author.Tests.{eq-eqb, ne-eqb, eqb-true, not-true, not-false}
 use lib.Dec.{leb, eqb}
 use lib.ListN.{length, replicate}
 use lib.Seq.{take-at}
@@ -39,8 +40,8 @@ use Rattle.schedule.specs.declared.Answer.{Answer as EntryAnswer}
 use Rattle.schedule.specs.declared.Answer.the-variants as entry
 use Rattle.schedule.specs.declared.Schedule.{Schedule}
 use Rattle.schedule.proofs.Laws as schedule
-use Rattle.model.specs.Changes.{Asks, mayChange, noneChanges, legalFields, isForEntry, namesEntry, storesEntry, noneStores, asksEntry, writesEntry, entryOn, SameIdentity, ValuesReported, OthersLeft, EntriesReadBack, CarriedOut, CommandRuns, PacketsChange, MeasurementsChange, SetUpsLegal}
-use Rattle.model.specs.Commands.{namesSchedule, isSchedule, isWrite, afterEntry, afterCommand, rowReport, entryReport, reported, run, runReports, discoverReports}
+use Rattle.model.specs.Changes.{Asks, mayChange, noneChanges, legalFields, isForEntry, namesEntry, storesEntry, noneStores, asksEntry, writesEntry, entryOn, SameIdentity, ValuesReported, DiscoveriesReported, OthersLeft, EntriesReadBack, CarriedOut, CommandRuns, PacketsChange, MeasurementsChange, SetUpsLegal}
+use Rattle.model.specs.Commands.{namesSchedule, isSchedule, isWrite, afterEntry, afterCommand, rowReport, entryReport, reported, run, runReports, discovered, discoverReports}
 use Rattle.model.specs.Measurement.{MeasureCall, measureRefusals, measureRefusal, measuredBy, measuredBoard}
 use Rattle.model.specs.Record.{isId, isUnit, unitType, unitOf, entriesSound, parametersOf, withParameters, SetUp, setUpRefusals, setUpRefusal, startBoard, unset, boardOf, setUpBoard, sound}
 use Rattle.model.specs.Step.{Call, request, unsound, isDiscovery, commandsOf, reportsOf, stepRefusal, step}
@@ -569,6 +570,19 @@ measurements-change c =
             record { store = size-kept (Measure (c .value)) (c .board .parameters .store) (c .number) (parts .sized .store); schedule = parts .sized .schedule },
             operation-legal (Measure (c .value)) (c .board .parameters) (c .number) (parts .sized) (parameters-of parts),
           ));
+    }
+
+pub discoveries-reported : DiscoveriesReported
+unfolding discovered
+discoveries-reported board c legal =
+    let parts = sound-parts board legal in
+    record {
+      identity = λ named.
+          ⊎-elim
+          (λ e. rw (e) (ap (λ (v : List ℕ). held (c .page) (c .low) v ∷ []) (sym (parts .own-id))))
+          (λ e. rw (e) (ap (λ (v : List ℕ). held (c .page) (c .low) v ∷ []) (sym (parts .unit-type))))
+          named;
+      others = λ no-id no-type. rw (ne-eqb (commandNumber c) 0x007C no-id, ne-eqb (commandNumber c) 0x00B9 no-type);
     }
 
 start-unit : (given : SetUp) → start (given .id) (given .unit) .unit ≡ given .unit

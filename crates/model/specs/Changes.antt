@@ -27,7 +27,7 @@ use Rattle.store.specs.declared.Store.{Store}
 use Rattle.schedule.specs.Days.{daysOf, contains, isEmpty}
 use Rattle.schedule.specs.Entries.{entry, degrees, bytesOf, entryAt}
 use Rattle.schedule.specs.Laws as entries
-use Rattle.model.specs.Commands.{afterCommand, reported, run, runReports}
+use Rattle.model.specs.Commands.{afterCommand, reported, run, runReports, discovered}
 use Rattle.model.specs.Measurement.{MeasureCall, measureRefusal, measuredBoard}
 use Rattle.model.specs.Record.{SetUp, setUpBoard, unitOf, sound}
 use Rattle.model.specs.Step.{Call, request, reportsOf, stepRefusal, step}
@@ -109,6 +109,16 @@ pub record ReportsHeld (parameters : Parameters) (c : Command) : Type 0 where
 
 abbrev pub ValuesReported : Type 0
 ValuesReported = (parameters : Parameters) (c : Command) → ReportsHeld parameters c
+
+-- what a discovery (search) reports of a sound record: 007C and 00B9 as the rows hold them, and nothing else
+pub record DiscoveryReports (board : Board) (c : Command) : Type 0 where
+  pub identity :
+      (commandNumber c ≡ 0x007C) ⊎ (commandNumber c ≡ 0x00B9)
+      → discovered (board .id) (unitOf board) c ≡ held (c .page) (c .low) (valueOf (board .parameters .store) (commandNumber c)) ∷ []
+  pub others : (commandNumber c ≡ 0x007C → ⊥) → (commandNumber c ≡ 0x00B9 → ⊥) → discovered (board .id) (unitOf board) c ≡ []
+
+abbrev pub DiscoveriesReported : Type 0
+DiscoveriesReported = (board : Board) (c : Command) → sound board ≡ true → DiscoveryReports board c
 
 -- a command of the schedule leaves every row as it was, any other command every entry
 pub record LeavesOthers (parameters : Parameters) (c : Command) : Type 0 where

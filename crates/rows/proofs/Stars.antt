@@ -6,7 +6,7 @@ use mathlib.Core.Path.{_≡_, refl, sym, ap, _∙_}
 use borrow.Author.Tests.{eqb-true}
 use lib.Dec.{T, eqb, leb}
 use lib.ListN.{getD}
-use Rattle.rows.specs.Rows.{Row, rows, noRow, has, named, indexIn, known}
+use Rattle.rows.specs.Rows.{Row, rows, noRow, has, named, indexIn}
 use Rattle.rows.specs.Rule.{oneStar, twoStars, StarsKept}
 use Rattle.rows.proofs.Bools.{both, tested}
 use Rattle.rows.proofs.Tables.{every}

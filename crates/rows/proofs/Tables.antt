@@ -6,12 +6,12 @@ use native.Mathlib.Omega.{arith}
 use mathlib.Core.Bool.{Bool, true, false, cond, _&&_}
 use mathlib.Core.List.{List, [], _∷_, map}
 use mathlib.Core.Logic.{_⊎_, inl, inr, ⊎-elim}
-use mathlib.Core.Path.{_≡_, refl, sym, ap, _∙_}
+use mathlib.Core.Path.{_≡_, refl, sym, _∙_}
 use lib.Dec.{T}
 use lib.ListN.{length, getD, drop, drop-of-length-le, List·getD-eq-default}
 use lib.Seq.{drop-cons}
 use Rattle.rows.specs.declared.Range.{Range}
-use Rattle.rows.specs.Rows.{Row, rows, noRow, rowAt, named, indexIn, indexOf}
+use Rattle.rows.specs.Rows.{Row, rows, noRow, rowAt, named, indexIn}
 use Rattle.rows.specs.Layout.{rowCount, setAt, placesFrom}
 use Rattle.rows.specs.Columns.{rangeOf}
 use Rattle.rows.proofs.Bools.{both}

@@ -1,11 +1,11 @@
 -- A temperature stored by its type is stored as its bytes.
 use Prim.Native.Nat.{ℕ, suc, _-_, _<_, _/_, _%_}
 use native.Mathlib.Omega.{arith}
-use mathlib.Core.Bool.{Bool, true, false, not, _&&_, false≢true}
+use mathlib.Core.Bool.{Bool, true, false}
 use mathlib.Core.List.{List, [], _∷_}
 use mathlib.Core.Logic.{⊎-elim}
 use mathlib.Core.Path.{_≡_, refl, sym, ap, _∙_}
-use borrow.Author.Tests.{eqb-true, lt-ltb, le-ltb}
+use borrow.Author.Tests.{lt-ltb, le-ltb}
 use lib.Dec.{eqb}
 use lib.ListN.{length, getD, replicate}
 use Rattle.rows.specs.declared.Quantity.the-variants as quantity
@@ -17,7 +17,6 @@ use Rattle.rows.specs.Sets.{lowFirstNumber, bytesOf}
 use Rattle.rows.specs.Layout.{sizeOf, isText, setAt, placeAt}
 use Rattle.store.specs.Layout.{filled, toSlot, overwritten, withValueAt}
 use Rattle.store.specs.Temperatures.{sensorMissing, shortCircuit, isMark, tenthsOf, bitsOf, readingOf}
-use Rattle.octets.proofs.Booleans.{both-true}
 use Rattle.rows.proofs.Quantities.{tenths-slot, degrees-slot}
 use Rattle.rows.proofs.Tables.{in-or-past}
 

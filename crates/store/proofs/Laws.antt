@@ -2,7 +2,7 @@
 use Prim.Native.Nat.{ℕ, _≤_, _<_}
 use native.Mathlib.Omega.{arith}
 use mathlib.Core.Bool.{Bool, true, false, cond, not, _&&_, _||_}
-use mathlib.Core.List.{List, [], _∷_}
+use mathlib.Core.List.{List}
 use mathlib.Core.Logic.{_⊎_, inl, inr, ⊎-elim}
 use mathlib.Core.Option.{Option, none, some, Option·map}
 use mathlib.Core.Path.{_≡_, refl, sym, ap, _∙_, subst}
@@ -15,10 +15,9 @@ use Rattle.store.specs.declared.Store.{Store}
 use Rattle.rows.specs.Rows.{Set, Number, Row, rows, rowOf, indexOf, allows, known, isIdentity}
 use Rattle.rows.specs.Sets.{lowFirstNumber, bytesOf, inRange, leastAbove, greatestBelow}
 use Rattle.rows.specs.Layout.{sizeOf}
-use Rattle.store.specs.Layout.{slotOf, fromSlot, valueOf, withValue}
+use Rattle.store.specs.Layout.{slotOf, valueOf, withValue}
 use Rattle.store.specs.Operations.{accepted, neighbour, stored}
 use Rattle.store.specs.Sound.{sound}
-use Rattle.store.specs.Start.{start}
 use Rattle.store.specs.Laws.{Operation, Write, Raise, Lower, Measure, newValue, after, heldNumber, Sized, Least, Greatest}
 use Rattle.store.specs.Laws.{SizeKept, UnitKept, OthersKept, IdentityKept, ReadBack, SoundKept, HeldLegal, HeldLength, StartSized, StartHeld, StartIdentity, StartSound, RaiseLeast, LowerGreatest}
 use Rattle.rows.proofs.Bools.{either, not-both, no-value, tested}

@@ -7,7 +7,7 @@ use mathlib.Core.Path.{_≡_, refl, ap, _∙_}
 use lib.Dec.{eqb}
 use lib.ListN.{length, getD, drop, drop-of-length-le}
 use lib.Seq.{drop-cons}
-use Rattle.rows.specs.Rows.{Set, Switch, Number, Text, Free, Clock, Calendar, Time, Row, rows, noRow, rowAt, has, rowOf}
+use Rattle.rows.specs.Rows.{Set, Switch, Number, Text, Free, Clock, Calendar, Time, Row, rows, noRow, rowAt, has}
 use Rattle.rows.specs.Sets.{member}
 use Rattle.rows.specs.Layout.{rowCount, setAt}
 use Rattle.rows.specs.Columns.{kindOf}

@@ -1,5 +1,5 @@
 -- Where the rows' slots lie in the store, and what stands in them.
-use Prim.Native.Nat.{ℕ, zero, suc, _+_, _-_, _≤_, _<_}
+use Prim.Native.Nat.{ℕ, zero, suc, _+_, _-_, _≤_}
 use native.Mathlib.Nat.{le-of-suc-le-suc, not-suc-le-zero, add-assoc, add-zero}
 use native.Mathlib.Omega.{arith}
 use mathlib.Core.Bool.{Bool, true, false, cond}
@@ -11,7 +11,7 @@ use lib.ListN.{length, getD, take, drop, replicate, length-append, length-take, 
 use lib.Seq.{take-all, take-at, take-nil, drop-at, drop-drop, getD-take, getD-drop, length-take-le}
 use Rattle.octets.specs.Octets.{overwrite, fits}
 use Rattle.store.specs.declared.Store.{Store}
-use Rattle.rows.specs.Rows.{Set, Row, rows, noRow}
+use Rattle.rows.specs.Rows.{Set, Row, rows}
 use Rattle.rows.specs.Layout.{rowCount, storeSize, longest, sizeOf, isText, widthOf, placesFrom, setAt, placeAt}
 use Rattle.store.specs.Layout.{storeOf, filled, fromSlot, overwritten, withValueAt}
 use Rattle.rows.proofs.Found as found

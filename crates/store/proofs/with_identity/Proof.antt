@@ -1,6 +1,5 @@
 -- `with_identity` meets its contract.
-use Prim.Native.Nat.{ℕ}
-use mathlib.Core.Path.{ap, _∙_}
+use mathlib.Core.Path.{_∙_}
 use borrow.Author.Needs.{needs}
 use Rattle.store.proofs.with_identity.Statement.{statement}
 use Rattle.store.proofs.with_identity.Tie as tie
