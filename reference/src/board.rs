@@ -66,7 +66,9 @@ fn run(record: &mut Record, command: &Command, search: bool) -> Option<Report> {
         return None;
     }
     let value = match number {
-        schedule::NUMBER => record.schedule.run(command.function, &command.value),
+        schedule::NUMBER if record.has_schedule() => {
+            record.schedule.run(command.function, &command.value)
+        }
         _ => run_row(record, command),
     };
     if command.function == 2 {
@@ -78,10 +80,10 @@ fn run(record: &mut Record, command: &Command, search: bool) -> Option<Report> {
     })
 }
 
-/// Runs a command on a row and gives the value it then holds; none if there is no such row.
+/// Runs a command on a row and gives the value it then holds; none if the type has no such row.
 fn run_row(record: &mut Record, command: &Command) -> Option<Vec<u8>> {
     let number = command.number;
-    let row = rows::find(number)?;
+    let row = rows::find(record.unit_type, number)?;
     let held = record.values[&number].clone();
     let new = match command.function {
         2 | 3 if row.takes(command.function) => row.written(&held, &command.value),
@@ -110,7 +112,7 @@ fn respond(record: &Record, frame: &Frame, reports: &[Report]) -> Result<Vec<u8>
 /// Stores a measurement in its read-only row.
 pub fn measure(record: &mut Record, number: u16, value: &[u8]) -> Result<(), Refusal> {
     record.check()?;
-    let row = rows::find(number)
+    let row = rows::find(record.unit_type, number)
         .filter(|row| row.access == Access::ReadOnly)
         .filter(|row| row.number != ID_ROW && row.number != UNIT_TYPE_ROW)
         .ok_or(Refusal::NotMeasured)?;
@@ -125,12 +127,17 @@ pub fn measure(record: &mut Record, number: u16, value: &[u8]) -> Result<(), Ref
 mod tests {
     use super::*;
     use crate::record::{ACCESS_POINT, setup};
+    use crate::units::{self, MICRA};
 
     const ID: [u8; 16] = *b"002D6E1B34565815";
     const PASSWORD: &[u8] = b"1111";
 
     fn board(mode: u8) -> Record {
-        setup(&ID, PASSWORD, mode).0
+        board_of(MICRA, mode)
+    }
+
+    fn board_of(unit_type: u8, mode: u8) -> Record {
+        setup(&ID, PASSWORD, mode, unit_type).0
     }
 
     /// The answer to one packet; the data block of the response is what is given back.
@@ -406,5 +413,69 @@ mod tests {
             measure(&mut record, 0x007C, &[]),
             Err(Refusal::IllegalRecord)
         );
+    }
+
+    #[test]
+    fn a_search_reports_the_type_of_the_board() {
+        for unit_type in units::ALL {
+            let mut record = board_of(unit_type, CLIENT);
+            let answer = search(&mut record, 1, &[0xB9, 0x77, 0x16]);
+            assert_eq!(answer, Ok(vec![0xFE, 2, 0xB9, unit_type, 0]));
+        }
+    }
+
+    #[test]
+    fn rows_that_a_type_lacks_are_unknown() {
+        for (unit_type, known, unknown) in [
+            (
+                2,
+                &[0x9F, 0x63, 0x3A][..],
+                &[0x16, 0x2D, 0x44, 0xB7, 0xB8][..],
+            ),
+            (
+                3,
+                &[0x16, 0x2D, 0x63, 0x3A, 0xB8],
+                &[0x9F, 0x93, 0xA1, 0x09, 0x77],
+            ),
+            (4, &[0x16, 0x2D, 0xB8, 0x44], &[0x63, 0x3A, 0x3F, 0x77]),
+            (
+                5,
+                &[0x44, 0x19, 0xB7],
+                &[0x16, 0x2D, 0xB8, 0x63, 0x3A, 0x77],
+            ),
+        ] {
+            let mut record = board_of(unit_type, CLIENT);
+            let before = record.clone();
+            for low in unknown {
+                for function in [1, 4, 5] {
+                    assert_eq!(own(&mut record, function, &[*low]), Ok(vec![0xFD, *low]));
+                }
+                assert_eq!(own(&mut record, 3, &[*low, 1]), Ok(vec![0xFD, *low]));
+                assert_eq!(own(&mut record, 2, &[*low, 1]), Ok(vec![]));
+                let number = u16::from(*low);
+                assert_eq!(
+                    measure(&mut record, number, &[0]),
+                    Err(Refusal::NotMeasured)
+                );
+            }
+            for low in known {
+                assert_ne!(own(&mut record, 1, &[*low]), Ok(vec![0xFD, *low]));
+            }
+            assert_eq!(record, before);
+        }
+    }
+
+    #[test]
+    fn measurements_have_the_size_of_the_type() {
+        for (unit_type, size) in [(2, 4), (3, 3), (4, 3), (5, 3)] {
+            let mut record = board_of(unit_type, ACCESS_POINT);
+            let value = vec![0xFF; size];
+            assert_eq!(measure(&mut record, 0x0064, &value), Ok(()));
+            assert_eq!(record.values[&0x0064], value);
+            assert_eq!(
+                measure(&mut record, 0x0064, &vec![0; 7 - size]),
+                Err(Refusal::MeasurementLength)
+            );
+        }
     }
 }

@@ -19,6 +19,8 @@ pub enum Call {
         id: Vec<u8>,
         password: Vec<u8>,
         mode: u8,
+        /// The line may leave it out: Micra.
+        unit_type: Option<u8>,
     },
     Packet {
         length: usize,
@@ -41,6 +43,7 @@ pub enum Call {
     PokeId(Vec<u8>),
     PokePassword(Vec<u8>),
     PokeMode(u8),
+    PokeType(u8),
     Write {
         length: usize,
         id: Vec<u8>,
@@ -84,11 +87,10 @@ pub enum Call {
 pub fn parse(line: &str) -> Option<Call> {
     let fields: Vec<&str> = line.split(' ').collect();
     match fields[..] {
-        ["setup", id, password, mode] => Some(Call::Setup {
-            id: hex::parse_field(id)?,
-            password: hex::parse_field(password)?,
-            mode: parse_byte(mode)?,
-        }),
+        ["setup", id, password, mode] => parse_setup(id, password, mode, None),
+        ["setup", id, password, mode, unit_type] => {
+            parse_setup(id, password, mode, Some(parse_byte(unit_type)?))
+        }
         ["packet", length, packet] => Some(Call::Packet {
             length: parse_decimal(length, LONGEST_BUFFER)?,
             packet: hex::parse_field(packet)?,
@@ -118,6 +120,15 @@ pub fn parse(line: &str) -> Option<Call> {
         }),
         _ => parse_capture_call(&fields),
     }
+}
+
+fn parse_setup(id: &str, password: &str, mode: &str, unit_type: Option<u8>) -> Option<Call> {
+    Some(Call::Setup {
+        id: hex::parse_field(id)?,
+        password: hex::parse_field(password)?,
+        mode: parse_byte(mode)?,
+        unit_type,
+    })
 }
 
 fn parse_capture_call(fields: &[&str]) -> Option<Call> {
@@ -179,6 +190,7 @@ fn parse_poke(field: &str, value: &str) -> Option<Call> {
         "id" => Some(Call::PokeId(hex::parse_field(value)?)),
         "password" => Some(Call::PokePassword(hex::parse_field(value)?)),
         "mode" => Some(Call::PokeMode(parse_byte(value)?)),
+        "type" => Some(Call::PokeType(parse_byte(value)?)),
         place => {
             let value = hex::parse_field(value)?;
             if let Some((day, period)) = parse_place(place) {
@@ -234,8 +246,15 @@ fn parse_byte(field: &str) -> Option<u8> {
 impl fmt::Display for Call {
     fn fmt(&self, output: &mut fmt::Formatter) -> fmt::Result {
         match self {
-            Call::Setup { id, password, mode } => {
-                write!(output, "setup {} {mode}", identity(id, password))
+            Call::Setup {
+                id,
+                password,
+                mode,
+                unit_type,
+            } => {
+                let unit_type = unit_type.map(|unit_type| format!(" {unit_type}"));
+                let last = unit_type.unwrap_or_default();
+                write!(output, "setup {} {mode}{last}", identity(id, password))
             }
             Call::Packet { length, packet } => {
                 write!(output, "packet {length} {}", hex::field(packet))
@@ -255,19 +274,23 @@ impl fmt::Display for Call {
                     .iter()
                     .try_for_each(|command| write_command(output, command))
             }
-            Call::Read {
-                id,
-                password,
-                packet,
-            } => write!(
-                output,
-                "read {} {}",
-                identity(id, password),
-                hex::field(packet)
-            ),
-            Call::List { packet } => write!(output, "list {}", hex::field(packet)),
-            other => write_capture_call(output, other),
+            other => write_reading(output, other),
         }
+    }
+}
+
+fn write_reading(output: &mut fmt::Formatter, call: &Call) -> fmt::Result {
+    match call {
+        Call::Read {
+            id,
+            password,
+            packet,
+        } => {
+            let expected = identity(id, password);
+            write!(output, "read {expected} {}", hex::field(packet))
+        }
+        Call::List { packet } => write!(output, "list {}", hex::field(packet)),
+        other => write_capture_call(output, other),
     }
 }
 
@@ -301,6 +324,7 @@ fn write_poke(output: &mut fmt::Formatter, call: &Call) -> fmt::Result {
         Call::PokeId(id) => ("id".to_string(), hex::field(id)),
         Call::PokePassword(password) => ("password".to_string(), hex::field(password)),
         Call::PokeMode(mode) => ("mode".to_string(), mode.to_string()),
+        Call::PokeType(unit_type) => ("type".to_string(), unit_type.to_string()),
         _ => unreachable!("only pokes come here"),
     };
     write!(output, "poke {place} {value}")
@@ -346,82 +370,96 @@ fn write_command(output: &mut fmt::Formatter, command: &Command) -> fmt::Result 
 mod tests {
     use super::*;
 
+    const FORMS: [&str; 34] = [
+        "setup - - 0",
+        "setup 00 31313131 255",
+        "setup 00 31313131 1 0",
+        "setup - - 2 255",
+        "packet 0 -",
+        "packet 1024 FDFD",
+        "measure 001E CEFF",
+        "measure FFFF -",
+        "record",
+        "poke 0001 02",
+        "poke 0077 01",
+        "poke 0077:1.1 -",
+        "poke 0077:7.4 05000000FF",
+        "poke id -",
+        "poke password 31",
+        "poke mode 7",
+        "poke type 0",
+        "poke type 255",
+        "write 256 00 31",
+        "write 256 00 - 1:0001:- 255:FFFF:00FF",
+        "read 00 31 FDFD",
+        "list -",
+        "capread -",
+        "capread 564C47",
+        "capwrite 0 -",
+        "capwrite 1048576 00 65535.255.4294967295.-",
+        "capwrite 22 0001,02 0.0.0.FDFD 0.1.10.00",
+        "summary -",
+        "rewrite 0 -",
+        "rewrite 1048576 564C47",
+        "export 0 -",
+        "export 1048576 564C47",
+        "import -",
+        "import 22",
+    ];
+
     #[test]
     fn lines_are_read_and_written_alike() {
-        for line in [
-            "setup - - 0",
-            "setup 00 31313131 255",
-            "packet 0 -",
-            "packet 1024 FDFD",
-            "measure 001E CEFF",
-            "measure FFFF -",
-            "record",
-            "poke 0001 02",
-            "poke 0077 01",
-            "poke 0077:1.1 -",
-            "poke 0077:7.4 05000000FF",
-            "poke id -",
-            "poke password 31",
-            "poke mode 7",
-            "write 256 00 31",
-            "write 256 00 - 1:0001:- 255:FFFF:00FF",
-            "read 00 31 FDFD",
-            "list -",
-            "capread -",
-            "capread 564C47",
-            "capwrite 0 -",
-            "capwrite 1048576 00 65535.255.4294967295.-",
-            "capwrite 22 0001,02 0.0.0.FDFD 0.1.10.00",
-            "summary -",
-            "rewrite 0 -",
-            "rewrite 1048576 564C47",
-            "export 0 -",
-            "export 1048576 564C47",
-            "import -",
-            "import 22",
-        ] {
+        for line in FORMS {
             assert_eq!(parse(line).unwrap().to_string(), line);
         }
     }
 
+    /// The hand-made list has the full range of them.
+    const NO_FORMS: [&str; 39] = [
+        "",
+        "record\r",
+        "tick 5",
+        "setup 00 31 1 256",
+        "setup 00 31 1 02",
+        "setup 00 31 1 -",
+        "setup 00 31 1 2 2",
+        "setup 00 31 256 2",
+        "poke type 256",
+        "poke type -",
+        "setup 00 31 99999999999999999999999",
+        "packet 256 FD FD",
+        "write 256 00 31 1:0001:-  1:0001:-",
+        "poke mode 1 1",
+        "poke 0077:0.1 00",
+        "poke 0077:8.1 00",
+        "poke 0077:1.0 00",
+        "poke 0077:1.5 00",
+        "poke 0078:1.1 00",
+        "poke 77:1.1 00",
+        "poke 0077:1:1 00",
+        "poke 0077:1.1 0",
+        "capwrite 1048577 -",
+        "capwrite 0 00,",
+        "capwrite 0 00,-",
+        "capwrite 0 - 65536.0.0.-",
+        "capwrite 0 - 0.256.0.-",
+        "capwrite 0 - 0.0.4294967296.-",
+        "capwrite 0 - 0.0.0.",
+        "capwrite 0 - 0.0.0.00.",
+        "rewrite -",
+        "rewrite 0 - -",
+        "rewrite 1048577 -",
+        "export -",
+        "export 0 - -",
+        "export 1048577 -",
+        "import",
+        "import 0 -",
+        "import 2",
+    ];
+
     #[test]
     fn other_lines_have_no_form() {
-        // The hand-made list has the full range of them.
-        for line in [
-            "",
-            "record\r",
-            "tick 5",
-            "setup 00 31 1 2",
-            "setup 00 31 99999999999999999999999",
-            "packet 256 FD FD",
-            "write 256 00 31 1:0001:-  1:0001:-",
-            "poke mode 1 1",
-            "poke 0077:0.1 00",
-            "poke 0077:8.1 00",
-            "poke 0077:1.0 00",
-            "poke 0077:1.5 00",
-            "poke 0078:1.1 00",
-            "poke 77:1.1 00",
-            "poke 0077:1:1 00",
-            "poke 0077:1.1 0",
-            "capwrite 1048577 -",
-            "capwrite 0 00,",
-            "capwrite 0 00,-",
-            "capwrite 0 - 65536.0.0.-",
-            "capwrite 0 - 0.256.0.-",
-            "capwrite 0 - 0.0.4294967296.-",
-            "capwrite 0 - 0.0.0.",
-            "capwrite 0 - 0.0.0.00.",
-            "rewrite -",
-            "rewrite 0 - -",
-            "rewrite 1048577 -",
-            "export -",
-            "export 0 - -",
-            "export 1048577 -",
-            "import",
-            "import 0 -",
-            "import 2",
-        ] {
+        for line in NO_FORMS {
             assert_eq!(parse(line), None, "{line}");
         }
     }

@@ -8,7 +8,7 @@ use crate::edges;
 use crate::generate::Subject;
 use crate::program;
 use crate::random::Random;
-use crate::replay::Session;
+use crate::replay::{self, Session};
 use crate::shrink::shrink;
 use crate::tally::Tally;
 
@@ -114,8 +114,11 @@ impl<Output: Write> Comparison<'_, Output> {
 /// The shortest list found in the time allowed that still shows a difference.
 fn shortest(program: &Path, lines: &[String], place: usize) -> Vec<String> {
     let deadline = Instant::now() + SHRINK_LIMIT;
+    // A difference on what the papers do not state would be none.
     let shows = |rest: &[String]| {
-        Instant::now() < deadline && difference(program, rest, &mut Tally::default()).is_err()
+        Instant::now() < deadline
+            && replay::is_stated(rest)
+            && difference(program, rest, &mut Tally::default()).is_err()
     };
     let up_to = &lines[..lines.len().min(place + 1)];
     let start = if shows(up_to) { up_to } else { lines };

@@ -19,7 +19,7 @@ mod table_calls;
 mod tool_calls;
 mod values;
 
-use crate::call::Call;
+use crate::call::{self, Call};
 use crate::random::Random;
 use crate::replay::Session;
 
@@ -38,10 +38,11 @@ type Scenario = fn(&mut Generator);
 /// How often a scenario comes, in parts of the sum of its table, and the scenario.
 type Weighted = (usize, Scenario);
 
-const BOARD_SCENARIOS: [Weighted; 24] = [
-    (6, Generator::set_up),
+const BOARD_SCENARIOS: [Weighted; 26] = [
+    (8, Generator::set_up),
     (24, Generator::rightful_traffic),
-    (8, Generator::one_row),
+    (6, Generator::expert_traffic),
+    (12, Generator::one_row),
     (8, Generator::search),
     (5, Generator::stranger),
     (4, Generator::malformed_block),
@@ -50,19 +51,32 @@ const BOARD_SCENARIOS: [Weighted; 24] = [
     (5, Generator::packet_of_any_length),
     (6, Generator::full_response),
     (5, Generator::full_search_response),
-    (6, Generator::measurement),
-    (4, Generator::poke_row),
+    (16, Generator::measurement),
+    (7, Generator::poke_row),
     (2, Generator::poke_identity),
-    (14, Generator::schedule_traffic),
-    (4, Generator::poke_entry),
-    (8, Generator::calendar_traffic),
+    (3, Generator::poke_type),
+    (20, Generator::schedule_traffic),
+    (6, Generator::poke_entry),
+    (13, Generator::calendar_traffic),
     (7, Generator::tool_to_board),
     (2, Generator::joined_packets),
-    (5, Generator::faulty_write),
+    (7, Generator::faulty_write),
     (2, Generator::full_write),
     (8, Generator::handmade_response),
-    (3, Generator::bad_line),
+    (6, Generator::bad_line),
     (3, Generator::show_record),
+];
+
+/// What a board of VENTO Expert is tried with in its turn.
+const EXPERT_SCENARIOS: [Weighted; 8] = [
+    (6, Generator::rightful_traffic),
+    (8, Generator::one_row),
+    (12, Generator::measurement),
+    (4, Generator::search),
+    (1, Generator::stranger),
+    (1, Generator::full_response),
+    (3, Generator::poke_row),
+    (1, Generator::tool_to_board),
 ];
 
 const CAPTURE_SCENARIOS: [Weighted; 7] = [
@@ -153,6 +167,15 @@ impl Generator {
         self.scenario(&BOARD_SCENARIOS);
     }
 
+    /// Sets a board of VENTO Expert up and stays with it for a while.
+    fn expert_traffic(&mut self) {
+        let unit_type = self.random.pick(&[3, 4, 5]);
+        self.set_up_type(unit_type);
+        for _ in 0..self.random.between(4, 16) {
+            self.scenario(&EXPERT_SCENARIOS);
+        }
+    }
+
     fn capture_scenario(&mut self) {
         if self.random.chance(1) {
             self.passed_over_line();
@@ -189,9 +212,10 @@ impl Generator {
         self.line(call.to_string())
     }
 
-    /// Adds any line and gives its answer.
+    /// Adds any line and gives its answer, but for a call that the papers do not state.
     fn line(&mut self, line: String) -> String {
-        if self.calls >= self.limit {
+        let stated = call::parse(&line).is_none_or(|call| self.session.is_stated(&call));
+        if self.calls >= self.limit || !stated {
             return String::new();
         }
         let answer = self.session.line(line.as_bytes());
@@ -233,6 +257,7 @@ impl Generator {
 #[cfg(test)]
 mod tests {
     use super::*;
+    use crate::replay;
 
     #[test]
     fn a_seed_gives_one_list_of_the_asked_length() {
@@ -247,6 +272,13 @@ mod tests {
                 .count();
             assert_eq!(answers, 700);
             assert!(subject.list(5, 0).is_empty());
+        }
+    }
+
+    #[test]
+    fn every_call_is_stated() {
+        for seed in 1..=5 {
+            assert!(replay::is_stated(&list(seed, 10_000)));
         }
     }
 

@@ -24,3 +24,4 @@ pub mod summary;
 pub mod table;
 pub mod tally;
 pub mod tool;
+pub mod units;

@@ -33,6 +33,8 @@ pub enum Refusal {
     IllegalPassword = 21,
     /// Set-up: the mode is neither client nor access point.
     SetupMode = 22,
+    /// Set-up: the unit type is none of 2 to 5.
+    SetupType = 23,
     /// Measurement: not a row that takes measurements.
     NotMeasured = 30,
     /// Measurement: wrong length.

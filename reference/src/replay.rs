@@ -10,10 +10,12 @@ use crate::hex;
 use crate::listing;
 use crate::record::{self, Record};
 use crate::refusal::Refusal;
+use crate::rows::UNIT_TYPE_ROW;
 use crate::schedule;
 use crate::summary;
 use crate::table::{self, Exported, Row};
 use crate::tool;
+use crate::units::{self, MICRA};
 
 pub const BAD_LINE: &str = "bad line";
 
@@ -24,6 +26,8 @@ const FILLER: u8 = 0xA5;
 #[derive(Clone)]
 pub struct Session {
     pub record: Record,
+    /// The unit type that the last set-up gave.
+    given_type: u8,
 }
 
 impl Default for Session {
@@ -37,7 +41,32 @@ impl Session {
     pub fn new() -> Session {
         Session {
             record: Record::refused(),
+            given_type: MICRA,
         }
+    }
+
+    /// Whether the papers state what a call does now.
+    ///
+    /// A poked type is for trying refusal 70. How rows of different types share their room in a record is each implementation's own
+    /// matter, so what the rows hold is not stated while the type is poked to another one of 2 to 5 than the one that set-up gave.
+    /// Fixed, generated and stored lists make no call on the rows then, and let no packet or measurement meet a 00B9 that follows the
+    /// poked type. All is stated where the type is none of 2 to 5, which has no rows, and again after it is poked back.
+    pub fn is_stated(&self, call: &Call) -> bool {
+        match call {
+            Call::Record | Call::PokeRow { .. } | Call::PokeEntry { .. } => {
+                !self.is_another(self.record.unit_type)
+            }
+            Call::PokeType(unit_type) => {
+                let row = &self.record.values[&UNIT_TYPE_ROW];
+                !self.is_another(*unit_type) || *row != units::row_value(*unit_type)
+            }
+            _ => true,
+        }
+    }
+
+    /// Whether this is a unit type, but not the one that set-up gave.
+    fn is_another(&self, unit_type: u8) -> bool {
+        units::ALL.contains(&unit_type) && unit_type != self.given_type
     }
 
     /// The answer to one line, its line end taken off; none for a line that is passed over.
@@ -55,7 +84,12 @@ impl Session {
     /// Makes one call.
     pub fn answer(&mut self, call: &Call) -> String {
         match call {
-            Call::Setup { id, password, mode } => self.setup(id, password, *mode),
+            Call::Setup {
+                id,
+                password,
+                mode,
+                unit_type,
+            } => self.setup(id, password, *mode, unit_type.unwrap_or(MICRA)),
             Call::Packet { length, packet } => self.packet(*length, packet),
             Call::Measure { number, value } => {
                 accepted(board::measure(&mut self.record, *number, value))
@@ -85,8 +119,9 @@ impl Session {
         }
     }
 
-    fn setup(&mut self, id: &[u8], password: &[u8], mode: u8) -> String {
-        let (record, answer) = record::setup(id, password, mode);
+    fn setup(&mut self, id: &[u8], password: &[u8], mode: u8, unit_type: u8) -> String {
+        let (record, answer) = record::setup(id, password, mode, unit_type);
+        self.given_type = record.unit_type;
         self.record = record;
         accepted(answer)
     }
@@ -101,11 +136,12 @@ impl Session {
         match call {
             Call::PokeRow { number, value } => self.record.poke_row(*number, value),
             Call::PokeEntry { day, period, value } => {
-                self.record.schedule.poke(*day, *period, value);
+                self.record.poke_entry(*day, *period, value);
             }
             Call::PokeId(id) => self.record.poke_id(id),
             Call::PokePassword(password) => self.record.poke_password(password),
             Call::PokeMode(mode) => self.record.mode = *mode,
+            Call::PokeType(unit_type) => self.record.unit_type = *unit_type,
             _ => unreachable!("only pokes come here"),
         }
         "poked".to_string()
@@ -249,20 +285,31 @@ fn shown_report(report: &Report) -> String {
 /// The whole record, legal or not.
 fn show(record: &Record) -> String {
     let identity = format!(
-        "record id={} password={} mode={}",
+        "record id={} password={} mode={} type={}",
         hex::field(&record.id),
         hex::field(&record.password),
-        record.mode
+        record.mode,
+        record.unit_type
     );
     let rows = record
-        .values
-        .iter()
+        .rows()
         .map(|(number, value)| format!(" {number:04X}={}", hex::field(value)));
-    let entries = record.schedule.entries().map(|(day, period, entry)| {
+    let entries = record.entries().map(|(day, period, entry)| {
         let number = schedule::NUMBER;
         format!(" {number:04X}:{day}.{period}={}", hex::field(entry))
     });
     identity + &rows.chain(entries).collect::<String>()
+}
+
+/// Whether the papers state what each call of a list does.
+pub fn is_stated<Line: AsRef<str>>(lines: &[Line]) -> bool {
+    let mut session = Session::new();
+    lines.iter().all(|line| {
+        let line = line.as_ref();
+        let stated = call::parse(line).is_none_or(|call| session.is_stated(&call));
+        session.line(line.as_bytes());
+        stated
+    })
 }
 
 /// Replays a whole list, line by line.
@@ -313,7 +360,7 @@ mod tests {
     fn before_the_first_setup_the_board_is_a_refused_one() {
         let first = run("record\n");
         assert!(first.starts_with(
-            "record id=00000000000000000000000000000000 password=- mode=1 0001=00 0002=01 0003=03 "
+            "record id=00000000000000000000000000000000 password=- mode=1 type=2 0001=00 0002=01 0003=03 "
         ));
         assert!(first.contains(
             " 00B9=0200 00F0=00 0111=0000 0112=000000000000 0400=00 0401=00 0402=00 0077:1.1="
@@ -338,7 +385,7 @@ mod tests {
         );
         let lines: Vec<&str> = lines.lines().collect();
         assert_eq!(lines[..4], ["poked"; 4]);
-        assert!(lines[4].contains(" password=2A mode=7 "));
+        assert!(lines[4].contains(" password=2A mode=7 type=2 "));
         assert!(lines[4].contains(" 0095=- ") && lines[4].contains(" 0063=FF00 "));
         assert_eq!(lines[5..], ["refused 70", "refused 70"]);
     }
@@ -355,6 +402,52 @@ mod tests {
         let (pokes, shown) = lines.rsplit_once("poked\n").unwrap();
         assert_eq!(pokes, "poked\n".repeat(28));
         assert!(shown.ends_with(&format!(" 0402=00{expected}\n")), "{shown}");
+    }
+
+    #[test]
+    fn a_record_shows_the_rows_of_its_type() {
+        let id = "30".repeat(16);
+        let shown = run(&format!("setup {id} - 2 5\npoke 0077:1.1 05\nrecord\n"));
+        let head = format!("accepted\npoked\nrecord id={id} password=- mode=2 type=5 0001=00 ");
+        assert!(shown.starts_with(&head), "{shown}");
+        assert!(shown.ends_with(" 00B7=00 00B9=0500 0302=0000 0303=0000 0304=00\n"));
+        let shown = run(&format!(
+            "setup {id} - 2 4\npoke type 6\npoke 0001 01\npoke 0077:1.1 05\nrecord\npacket 0 -\n\
+             poke type 4\nrecord\n"
+        ));
+        let lines: Vec<&str> = shown.lines().collect();
+        let nothing = format!("record id={id} password=- mode=2 type=6");
+        assert_eq!(lines[4..6], [&nothing, "refused 70"]);
+        assert!(lines[7].contains(" type=4 0001=00 ") && !lines[7].contains("0077"));
+    }
+
+    #[test]
+    fn rows_of_another_type_than_given_are_not_stated() {
+        let setup = format!("setup {} - 1 3", "30".repeat(16));
+        for (lines, stated) in [
+            (
+                &["poke type 4", "packet 256 -", "measure 0064 00"][..],
+                true,
+            ),
+            (&["poke type 4", "record"], false),
+            (&["poke type 2", "poke 0077:1.1 00"], false),
+            (&["poke type 5", "poke 0001 00"], false),
+            (
+                &["poke type 5", "poke mode 2", "poke type 3", "record"],
+                true,
+            ),
+            (&["poke type 6", "record", "poke 0001 00"], true),
+            (
+                &["poke 00B9 02", "record", "poke type 4", "packet 0 -"],
+                true,
+            ),
+            (&["poke 00B9 02", "poke type 2"], false),
+            (&["poke type 2", "setup - - 1", "record"], true),
+            (&["recor", "# record"], true),
+        ] {
+            let list = [&[setup.as_str()], lines].concat();
+            assert_eq!(is_stated(&list), stated, "{lines:?}");
+        }
     }
 
     #[test]

@@ -1,9 +1,13 @@
-//! The rows that exist: their numbers, the values they may hold and the functions they take.
+//! The rows of each unit type: their numbers, the values they may hold and the functions they take.
+
+mod expert;
+mod micra;
 
 use std::collections::BTreeMap;
 use std::sync::OnceLock;
 
 use crate::calendar;
+use crate::units;
 
 /// The row that holds the date.
 pub const CALENDAR_ROW: u16 = 0x0070;
@@ -11,8 +15,6 @@ pub const CALENDAR_ROW: u16 = 0x0070;
 pub const ID_ROW: u16 = 0x007C;
 /// The row that holds the unit type.
 pub const UNIT_TYPE_ROW: u16 = 0x00B9;
-/// The unit type, low byte first.
-pub const UNIT_TYPE: [u8; 2] = [2, 0];
 
 /// Which functions a row takes.
 #[derive(Clone, Copy, Debug, PartialEq, Eq)]
@@ -25,13 +27,42 @@ pub enum Access {
     AllFive,
 }
 
+/// The stars of a row in the table of VENTO Expert.
+#[derive(Clone, Copy, Debug, PartialEq, Eq)]
+pub enum Stars {
+    None,
+    /// Type 5 lacks the row.
+    One,
+    /// Type 3 alone has the row.
+    Two,
+}
+
+/// Numbers from the first to the last by a step.
+#[derive(Debug)]
+pub struct Span {
+    first: u16,
+    last: u16,
+    step: usize,
+}
+
+impl Span {
+    fn contains(&self, number: u16) -> bool {
+        let in_range = (self.first..=self.last).contains(&number);
+        in_range && usize::from(number - self.first).is_multiple_of(self.step)
+    }
+
+    fn numbers(&self) -> impl Iterator<Item = u16> {
+        (self.first..=self.last).step_by(self.step)
+    }
+}
+
 /// The set of legal values of a row.
 #[derive(Debug)]
 pub enum Values {
-    /// One number, low byte first, out of an ascending list.
-    Number { size: usize, members: Vec<u16> },
+    /// One number, low byte first, out of ascending spans.
+    Number { size: usize, spans: &'static [Span] },
     /// Each byte in a range of its own.
-    Bytes(Vec<(u8, u8)>),
+    Bytes(&'static [(u8, u8)]),
     /// Day, weekday, month and year of a date.
     Date,
     /// Bytes 20 to 7E, the length in a range.
@@ -45,6 +76,7 @@ pub struct Row {
     /// Writing 2 inverts.
     pub inverts: bool,
     pub values: Values,
+    pub stars: Stars,
 }
 
 impl Row {
@@ -56,8 +88,13 @@ impl Row {
         }
     }
 
-    pub fn is_writable(&self) -> bool {
-        self.takes(2)
+    /// Whether a unit type of the row's product has the row.
+    fn is_on(&self, unit_type: u8) -> bool {
+        match self.stars {
+            Stars::None => true,
+            Stars::One => unit_type != 5,
+            Stars::Two => unit_type == 3,
+        }
     }
 
     /// The most bytes that a value of this row has.
@@ -74,17 +111,27 @@ impl Row {
         matches!(self.values, Values::Text { .. })
     }
 
+    /// The numbers of the row's set, ascending; none if the row holds no number.
+    pub fn members(&self) -> Vec<u16> {
+        let spans = match &self.values {
+            Values::Number { spans, .. } => *spans,
+            _ => &[],
+        };
+        spans.iter().flat_map(Span::numbers).collect()
+    }
+
     /// Whether the value is in the row's set.
     pub fn contains(&self, value: &[u8]) -> bool {
         match &self.values {
-            Values::Number { size, members } => {
-                value.len() == *size && members.contains(&number_of(value))
+            Values::Number { size, spans } => {
+                let number = number_of(value);
+                value.len() == *size && spans.iter().any(|span| span.contains(number))
             }
             Values::Bytes(ranges) => {
                 value.len() == ranges.len()
                     && value
                         .iter()
-                        .zip(ranges)
+                        .zip(*ranges)
                         .all(|(byte, (low, high))| low <= byte && byte <= high)
             }
             Values::Date => {
@@ -107,33 +154,25 @@ impl Row {
 
     /// The least legal value above the one held.
     pub fn raised(&self, held: &[u8]) -> Option<Vec<u8>> {
-        let (size, members) = self.ordered()?;
-        let above = members.iter().filter(|member| **member > number_of(held));
-        Some(bytes_of(*above.min()?, size))
+        let members = self.members().into_iter();
+        let above = members.filter(|member| *member > number_of(held));
+        Some(bytes_of(above.min()?, self.room()))
     }
 
     /// The greatest legal value below the one held.
     pub fn lowered(&self, held: &[u8]) -> Option<Vec<u8>> {
-        let (size, members) = self.ordered()?;
-        let below = members.iter().filter(|member| **member < number_of(held));
-        Some(bytes_of(*below.max()?, size))
+        let members = self.members().into_iter();
+        let below = members.filter(|member| *member < number_of(held));
+        Some(bytes_of(below.max()?, self.room()))
     }
 
-    fn ordered(&self) -> Option<(usize, &[u16])> {
-        match &self.values {
-            Values::Number { size, members } => Some((*size, members)),
-            _ => None,
-        }
-    }
-
-    /// The value that the start record holds. 007C depends on the ID and is set there.
+    /// The value that the start record holds. 007C and 00B9 depend on the identity and are set there.
     pub fn start(&self) -> Vec<u8> {
         match (self.number, &self.values) {
             (0x0037, _) => vec![100],
             (0x0095, _) => b"A".to_vec(),
             (0x0096, _) => b"00000000".to_vec(),
-            (UNIT_TYPE_ROW, _) => UNIT_TYPE.to_vec(),
-            (_, Values::Number { size, members }) => bytes_of(members[0], *size),
+            (_, Values::Number { size, .. }) => bytes_of(self.members()[0], *size),
             (_, Values::Bytes(ranges)) => ranges.iter().map(|(low, _)| *low).collect(),
             (_, Values::Date) => vec![1, 6, 1, 0],
             (_, Values::Text { shortest, .. }) => vec![b' '; *shortest],
@@ -143,190 +182,170 @@ impl Row {
 
 /// A value of one or two bytes as a number, low byte first.
 fn number_of(value: &[u8]) -> u16 {
-    value
-        .iter()
-        .rev()
-        .fold(0, |number, byte| number * 256 + u16::from(*byte))
+    let bytes = [0, 1].map(|place| value.get(place).copied().unwrap_or(0));
+    u16::from_le_bytes(bytes)
 }
 
 fn bytes_of(number: u16, size: usize) -> Vec<u8> {
     number.to_le_bytes()[..size].to_vec()
 }
 
-/// The row of a number; none if the parameter is unknown.
-pub fn find(number: u16) -> Option<&'static Row> {
-    all().get(&number)
+/// The rows of a unit type by ascending number.
+pub type Table = BTreeMap<u16, &'static Row>;
+
+/// The rows of a unit type; none for a number that is no unit type.
+pub fn of(unit_type: u8) -> &'static Table {
+    static NONE: Table = Table::new();
+    static TABLES: OnceLock<BTreeMap<u8, Table>> = OnceLock::new();
+    let tables = TABLES.get_or_init(|| {
+        let types = units::ALL.map(|unit_type| (unit_type, table(unit_type)));
+        types.collect()
+    });
+    tables.get(&unit_type).unwrap_or(&NONE)
 }
 
-/// All rows by ascending number.
-pub fn all() -> &'static BTreeMap<u16, Row> {
-    static ROWS: OnceLock<BTreeMap<u16, Row>> = OnceLock::new();
-    ROWS.get_or_init(|| {
-        let groups = [switches(), all_five(), three(), read_only()];
-        let mut by_number = BTreeMap::new();
-        for row in groups.into_iter().flatten() {
-            let earlier = by_number.insert(row.number, row);
-            assert!(earlier.is_none(), "a row is listed twice");
-        }
-        by_number
-    })
+fn table(unit_type: u8) -> Table {
+    let product: &'static [Row] = match unit_type {
+        units::MICRA => &micra::ROWS,
+        _ => &expert::ROWS,
+    };
+    let mut by_number = Table::new();
+    for row in product.iter().filter(|row| row.is_on(unit_type)) {
+        let earlier = by_number.insert(row.number, row);
+        assert!(earlier.is_none(), "a row is listed twice");
+    }
+    by_number
 }
 
-/// A row of one number of one byte.
-fn byte_row(number: u16, access: Access, members: impl IntoIterator<Item = u16>) -> Row {
-    let members = members.into_iter().collect();
+/// The row of a number on a unit type; none if the parameter is unknown there.
+pub fn find(unit_type: u8, number: u16) -> Option<&'static Row> {
+    of(unit_type).get(&number).copied()
+}
+
+// What the tables of the products are made of.
+
+/// Seconds, minutes and hours.
+const CLOCK: &[(u8, u8)] = &[(0, 59), (0, 59), (0, 23)];
+
+/// Any bytes, of which a row takes as many as it has.
+const FREE: &[(u8, u8)] = &[(0, 255); 16];
+
+const fn to(first: u16, last: u16) -> Span {
+    steps(first, last, 1)
+}
+
+const fn only(number: u16) -> Span {
+    steps(number, number, 1)
+}
+
+const fn steps(first: u16, last: u16, step: usize) -> Span {
+    Span { first, last, step }
+}
+
+const fn row(number: u16, access: Access, values: Values) -> Row {
     Row {
         number,
         access,
         inverts: false,
-        values: Values::Number { size: 1, members },
+        values,
+        stars: Stars::None,
     }
 }
 
-fn bytes_row(number: u16, access: Access, ranges: &[(u8, u8)]) -> Row {
-    Row {
-        number,
-        access,
-        inverts: false,
-        values: Values::Bytes(ranges.to_vec()),
-    }
+/// 0 or 1; writing 2 inverts.
+const fn switch(number: u16) -> Row {
+    const SPANS: &[Span] = &[to(0, 1)];
+    let mut switch = byte(number, Access::Three, SPANS);
+    switch.inverts = true;
+    switch
 }
 
-fn switches() -> Vec<Row> {
-    let inverting = [0x0001, 0x0007, 0x0014, 0x0015, 0x0068, 0x0072, 0x009B];
-    let mut rows = vec![
-        byte_row(0x0401, Access::Three, 0..=1),
-        byte_row(0x0402, Access::Three, 0..=1),
-    ];
-    for number in inverting {
-        let mut row = byte_row(number, Access::Three, 0..=1);
-        row.inverts = true;
-        rows.push(row);
-    }
-    rows
+/// One number of one byte.
+const fn byte(number: u16, access: Access, spans: &'static [Span]) -> Row {
+    self::number(number, access, 1, spans)
 }
 
-fn all_five() -> Vec<Row> {
-    let access = Access::AllFive;
-    let mut rows = vec![
-        byte_row(0x0002, access, 1..=5),
-        byte_row(0x0003, access, [3, 5]),
-        byte_row(0x0008, access, 0..=5),
-        byte_row(0x0009, access, 0..=59),
-        byte_row(0x000A, access, 0..=23),
-        byte_row(0x000D, access, [0].into_iter().chain(15..=30)),
-        byte_row(0x0018, access, 15..=30),
-        byte_row(0x001D, access, 0..=2),
-        byte_row(0x0060, access, 0..=1),
-        byte_row(0x00F0, access, 0..=1),
-        byte_row(0x0066, access, 0..=60),
-        byte_row(0x0067, access, 0..=15),
-        filter_timer(),
-    ];
-    let fan_speeds = [0x0036, 0x0037]
-        .into_iter()
-        .chain(0x003A..=0x0043)
-        .chain(0x0045..=0x0047);
-    for number in fan_speeds {
-        rows.push(byte_row(number, access, 0..=100));
-    }
-    rows
+const fn number(number: u16, access: Access, size: usize, spans: &'static [Span]) -> Row {
+    row(number, access, Values::Number { size, spans })
 }
 
-/// 0063: 0, or 70 to 365 in steps of 5.
-fn filter_timer() -> Row {
-    let members = [0].into_iter().chain((70..=365).step_by(5)).collect();
-    Row {
-        number: 0x0063,
-        access: Access::AllFive,
-        inverts: false,
-        values: Values::Number { size: 2, members },
-    }
+const fn bytes(number: u16, ranges: &'static [(u8, u8)]) -> Row {
+    row(number, Access::Three, Values::Bytes(ranges))
 }
 
-fn three() -> Vec<Row> {
-    let access = Access::Three;
-    let mut rows = vec![
-        byte_row(0x0094, access, 1..=2),
-        byte_row(0x0099, access, [48, 50, 51, 52]),
-        byte_row(0x009A, access, 1..=13),
-        byte_row(0x0400, access, 0..=80),
-        bytes_row(0x006F, access, &[(0, 59), (0, 59), (0, 23)]),
-        Row {
-            number: CALENDAR_ROW,
-            access,
-            inverts: false,
-            values: Values::Date,
-        },
-        text_row(0x0095, 1, 32),
-        text_row(0x0096, 8, 64),
-    ];
-    for number in 0x009C..=0x009F {
-        rows.push(bytes_row(number, access, &[(0, 255); 4]));
-    }
-    rows
+const fn free(number: u16, size: usize) -> Row {
+    bytes(number, FREE.split_at(size).0)
 }
 
-fn text_row(number: u16, shortest: usize, longest: usize) -> Row {
-    Row {
-        number,
-        access: Access::Three,
-        inverts: false,
-        values: Values::Text { shortest, longest },
-    }
+const fn read_only(number: u16, size: usize) -> Row {
+    let values = Values::Bytes(FREE.split_at(size).0);
+    row(number, Access::ReadOnly, values)
 }
 
-fn read_only() -> Vec<Row> {
-    let sized: [(usize, &[u16]); 6] = [
-        (
-            1,
-            &[
-                0x0006, 0x0032, 0x0033, 0x0073, 0x0074, 0x0088, 0x0093, 0x00A1, 0x00B6,
-            ],
-        ),
-        (
-            2,
-            &[
-                0x0111,
-                0x001E,
-                0x001F,
-                0x0020,
-                0x0021,
-                0x0022,
-                0x006A,
-                UNIT_TYPE_ROW,
-            ],
-        ),
-        (3, &[0x000B]),
-        (4, &[0x0064, 0x00A3]),
-        (6, &[0x0086, 0x0112]),
-        (16, &[ID_ROW]),
-    ];
-    let mut rows = Vec::new();
-    for (size, numbers) in sized {
-        for number in numbers {
-            let ranges = vec![(0, 255); size];
-            rows.push(bytes_row(*number, Access::ReadOnly, &ranges));
-        }
+const fn text(number: u16, shortest: usize, longest: usize) -> Row {
+    row(number, Access::Three, Values::Text { shortest, longest })
+}
+
+const fn date() -> Row {
+    row(CALENDAR_ROW, Access::Three, Values::Date)
+}
+
+impl Row {
+    const fn starred(mut self, stars: Stars) -> Row {
+        self.stars = stars;
+        self
     }
-    rows
 }
 
 #[cfg(test)]
 mod tests {
     use super::*;
+    use crate::units::MICRA;
 
     fn row(number: u16) -> &'static Row {
-        find(number).unwrap()
+        find(MICRA, number).unwrap()
+    }
+
+    /// A row of VENTO Expert.
+    fn expert(number: u16) -> &'static Row {
+        find(3, number).unwrap()
+    }
+
+    /// How many rows a type has by their functions, and how many of them invert.
+    fn counts(unit_type: u8) -> [usize; 4] {
+        let rows = || of(unit_type).values();
+        let count = |access| rows().filter(|row| row.access == access).count();
+        let inverting = rows().filter(|row| row.inverts).count();
+        [
+            count(Access::ReadOnly),
+            count(Access::Three),
+            count(Access::AllFive),
+            inverting,
+        ]
     }
 
     #[test]
-    fn there_are_72_rows() {
-        let count = |access| all().values().filter(|row| row.access == access).count();
-        assert_eq!(count(Access::ReadOnly), 23);
-        assert_eq!(count(Access::Three), 9 + 12);
-        assert_eq!(count(Access::AllFive), 13 + 15);
-        assert_eq!(all().values().filter(|row| row.inverts).count(), 7);
+    fn there_are_72_rows_of_micra() {
+        assert_eq!(of(MICRA).len(), 72);
+        assert_eq!(counts(MICRA), [23, 9 + 12, 13 + 15, 7]);
+    }
+
+    #[test]
+    fn there_are_50_rows_of_expert_and_fewer_with_stars() {
+        assert_eq!([3, 4, 5].map(|unit_type| of(unit_type).len()), [50, 43, 39]);
+        assert_eq!(counts(3), [18, 16, 16, 6]);
+        assert_eq!(counts(4), [18, 16, 9, 6]);
+        assert_eq!(counts(5), [16, 15, 8, 5]);
+        let lacking = |unit_type| {
+            let rows = of(3).keys();
+            let lacking = rows.filter(move |number| find(unit_type, **number).is_none());
+            lacking.copied().collect::<Vec<u16>>()
+        };
+        let two_stars = [0x003A, 0x003B, 0x003C, 0x003D, 0x003E, 0x003F, 0x0063];
+        assert_eq!(lacking(4), two_stars);
+        let both = [&[0x0016, 0x002D], &two_stars[..], &[0x00B8, 0x0305]].concat();
+        assert_eq!(lacking(5), both);
+        assert!((0..=255).all(|other| units::ALL.contains(&other) != of(other).is_empty()));
     }
 
     #[test]
@@ -334,9 +353,52 @@ mod tests {
         for number in [
             0x0000, 0x0065, 0x0077, 0x007D, 0x007E, 0x007F, 0x0080, 0x0081, 0x0083, 0x0085, 0x0087,
             0x00A0, 0x00A2, 0x0038, 0x0039, 0x0044, 0x0048, 0x0101, 0x0240, 0x0403, 0x00FB, 0xFFFF,
+            0x000F, 0x0016, 0x0019, 0x0302, 0x0303, 0x0304, 0x0305,
         ] {
-            assert!(find(number).is_none(), "{number:04X}");
+            assert!(find(MICRA, number).is_none(), "{number:04X}");
         }
+        for number in [
+            0x0000, 0x0003, 0x0008, 0x0009, 0x0065, 0x0077, 0x007D, 0x0080, 0x0085, 0x0087, 0x0093,
+            0x009F, 0x00A0, 0x00A1, 0x00A2, 0x0036, 0x0037, 0x0040, 0x0301, 0x0306, 0x0400, 0xFFFF,
+        ] {
+            assert!(find(3, number).is_none(), "{number:04X}");
+        }
+    }
+
+    #[test]
+    fn sets_of_expert_end_where_the_guide_says() {
+        let edges: [(u16, &[u8], &[u8]); 11] = [
+            (0x0002, &[1, 3, 255], &[0, 4, 5, 254]),
+            (0x0007, &[0, 1, 2], &[3]),
+            (0x0019, &[40, 80], &[39, 81]),
+            (0x003A, &[10, 255], &[0, 9]),
+            (0x003F, &[10, 255], &[0, 9]),
+            (0x0044, &[0, 255], &[]),
+            (0x0066, &[0, 60], &[61]),
+            (0x0094, &[1, 2], &[0, 3]),
+            (0x009A, &[1, 13], &[0, 14]),
+            (0x00B7, &[0, 2], &[3]),
+            (0x00B8, &[5, 100], &[0, 4, 101]),
+        ];
+        for (number, legal, illegal) in edges {
+            assert_eq!(expert(number).access, Access::AllFive);
+            assert!(!expert(number).inverts);
+            assert!(legal.iter().all(|byte| expert(number).contains(&[*byte])));
+            assert!(!illegal.iter().any(|byte| expert(number).contains(&[*byte])));
+        }
+        for number in [0x0302, 0x0303] {
+            let setpoint = expert(number);
+            assert_eq!(setpoint.access, Access::Three);
+            assert!(setpoint.contains(&[59, 23]) && setpoint.contains(&[0, 0]));
+            assert!(!setpoint.contains(&[60, 0]) && !setpoint.contains(&[0, 24]));
+            assert!(!setpoint.contains(&[0]) && !setpoint.contains(&[0, 0, 0]));
+        }
+        let timer = expert(0x0063);
+        assert_eq!(timer.members(), (70..=365).collect::<Vec<u16>>());
+        assert_eq!(timer.start(), [70, 0]);
+        assert_eq!(expert(0x0002).raised(&[3]), Some(vec![255]));
+        assert_eq!(expert(0x0002).lowered(&[255]), Some(vec![3]));
+        assert_eq!(expert(0x0064).room(), 3);
     }
 
     #[test]
@@ -428,7 +490,7 @@ mod tests {
 
     #[test]
     fn start_values_are_legal() {
-        for row in all().values() {
+        for row in units::ALL.flat_map(|unit_type| of(unit_type).values()) {
             assert!(row.contains(&row.start()), "{:04X}", row.number);
         }
         assert_eq!(row(0x0070).start(), [1, 6, 1, 0]);

@@ -4,6 +4,7 @@ mod calendar;
 mod captures;
 mod schedule;
 mod tables;
+mod units;
 
 use std::collections::BTreeMap;
 
@@ -16,7 +17,7 @@ use captures::Written;
 
 /// What a comparison of the board has to meet: each call with its refusals and its other answers.
 const EXPECTED: [(&str, &[u8], &[&str]); 9] = [
-    ("setup", &[20, 21, 22], &["accepted"]),
+    ("setup", &[20, 21, 22, 23], &["accepted"]),
     (
         "packet",
         &[70, 1, 2, 3, 4, 5, 6, 7, 8, 9, 10, 11, 12],
@@ -91,6 +92,7 @@ impl Tally {
         }
         let mut names = schedule::met(line, answer, record);
         names.extend(calendar::met(line, answer, record));
+        names.extend(units::met(line, answer, record));
         for name in names.into_iter().chain([name]) {
             *self.counts.entry(name).or_default() += 1;
         }
@@ -135,6 +137,7 @@ fn expected_of_board() -> impl Iterator<Item = String> {
     calls
         .chain(schedule::expected())
         .chain(calendar::expected())
+        .chain(units::expected())
 }
 
 /// The ID and the commands of a packet that can be read.

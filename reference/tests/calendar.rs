@@ -2,13 +2,15 @@
 
 mod dates;
 
-use reference::rows;
+use reference::{rows, units};
 
 #[test]
 fn the_calendar_holds_every_date_and_nothing_else() {
-    let row = rows::find(rows::CALENDAR_ROW).expect("the calendar is a row");
     let dates = dates::all();
-    for value in dates::candidates() {
-        assert_eq!(row.contains(&value), dates.contains(&value), "{value:?}");
+    for unit_type in units::ALL {
+        let row = rows::find(unit_type, rows::CALENDAR_ROW).expect("the calendar is a row");
+        for value in dates::candidates() {
+            assert_eq!(row.contains(&value), dates.contains(&value), "{value:?}");
+        }
     }
 }

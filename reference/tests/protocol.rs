@@ -2,7 +2,7 @@
 
 mod board;
 
-use std::collections::BTreeSet;
+use std::collections::{BTreeMap, BTreeSet};
 use std::fs;
 use std::ops::RangeInclusive;
 use std::path::Path;
@@ -18,6 +18,7 @@ use reference::rows::{self, Row};
 use reference::schedule::{self, FIELDS, Schedule};
 use reference::summary;
 use reference::tally;
+use reference::units::{self, MICRA};
 
 const ID: [u8; 16] = *b"002D6E1B34565815";
 /// The guide's default password, 1111.
@@ -100,8 +101,8 @@ fn hex_number(text: &str) -> u16 {
     u16::from_str_radix(text, 16).expect("four digits")
 }
 
-fn start() -> Record {
-    setup(&ID, b"1111", CLIENT).0
+fn start(unit_type: u8) -> Record {
+    setup(&ID, b"1111", CLIENT, unit_type).0
 }
 
 /// Whether a board may hold the value in the row.
@@ -113,45 +114,140 @@ fn is_held(record: &mut Record, number: u16, value: &[u8]) -> bool {
     legal
 }
 
-fn listed_rows() -> Vec<(u16, Vec<String>)> {
-    let rows = table("The rows", "Number").into_iter();
-    rows.map(|cells| (hex_number(&cells[0]), cells)).collect()
+/// The sections of the products' tables.
+const MICRA_ROWS: &str = "The rows of Micra";
+const EXPERT_ROWS: &str = "The rows of VENTO Expert";
+
+/// A row of a product's table, on one of the types that have it.
+struct Listed {
+    unit_type: u8,
+    row: &'static Row,
+    cells: Vec<String>,
+}
+
+impl Listed {
+    fn name(&self) -> &str {
+        &self.cells[1]
+    }
+
+    /// The ID or the unit type where a cell names it.
+    fn identity(&self, cell: &str) -> Option<Vec<u8>> {
+        match cell {
+            "the ID" => Some(ID.to_vec()),
+            "the type" => Some(vec![self.unit_type, 0]),
+            _ => None,
+        }
+    }
+}
+
+/// The types that have a row of a product's table.
+fn listed_types(section: &str, cells: &[String]) -> Vec<u8> {
+    let types = match section {
+        MICRA_ROWS => "2",
+        _ => &cells[6],
+    };
+    members(types)
+        .into_iter()
+        .map(|listed| listed as u8)
+        .collect()
+}
+
+/// The rows of both tables, once for each type that has them.
+fn listed_rows() -> Vec<Listed> {
+    let mut listed = Vec::new();
+    for section in [MICRA_ROWS, EXPERT_ROWS] {
+        for cells in table(section, "Number") {
+            for unit_type in listed_types(section, &cells) {
+                let row = rows::find(unit_type, hex_number(&cells[0]));
+                listed.push(Listed {
+                    unit_type,
+                    row: row.expect("a row of the type"),
+                    cells: cells.clone(),
+                });
+            }
+        }
+    }
+    listed
 }
 
 #[test]
 fn the_rows_are_those_that_exist() {
-    let numbers: Vec<u16> = listed_rows().iter().map(|(number, _)| *number).collect();
-    let existing: Vec<u16> = rows::all().keys().copied().collect();
-    assert_eq!(numbers, existing);
-    let count = format!("These {} rows exist.", existing.len());
-    assert!(file("docs/PROTOCOL.md").contains(&count));
-}
-
-#[test]
-fn rows_have_the_client_names() {
-    let client = file("host/src/rows.rs");
-    for (number, cells) in listed_rows() {
-        let (number, name) = (format!("0x{number:04X}"), format!("\"{}\"", cells[1]));
-        let named = |line: &str| line.contains(&number) && line.contains(&name);
-        assert!(client.lines().any(named), "{cells:?}");
+    let listed = listed_rows();
+    let types = table("The rows", "Type");
+    assert_eq!(types.len(), units::ALL.count());
+    for (unit_type, cells) in units::ALL.zip(types) {
+        let rows = listed.iter().filter(|listed| listed.unit_type == unit_type);
+        let numbers: Vec<u16> = rows.map(|listed| listed.row.number).collect();
+        let existing: Vec<u16> = rows::of(unit_type).keys().copied().collect();
+        assert_eq!(numbers, existing);
+        assert_eq!(cells[0], unit_type.to_string());
+        assert_eq!(cells[2], existing.len().to_string(), "{cells:?}");
     }
 }
 
 #[test]
+fn rows_have_the_client_names() {
+    let micra = file("host/src/rows/micra.rs");
+    let expert = file("host/src/rows/expert.rs");
+    for listed in listed_rows() {
+        let client = if listed.unit_type == MICRA {
+            &micra
+        } else {
+            &expert
+        };
+        let number = format!("0x{:04X}", listed.row.number);
+        let name = format!("\"{}\"", listed.name());
+        let named = |line: &str| line.contains(&number) && line.contains(&name);
+        assert!(client.lines().any(named), "{name}");
+    }
+}
+
+#[test]
+fn a_name_stands_for_one_number() {
+    let mut numbers: BTreeMap<String, u16> = BTreeMap::new();
+    for listed in listed_rows() {
+        let number = listed.row.number;
+        let earlier = numbers.insert(listed.name().to_string(), number);
+        assert!(earlier.is_none_or(|earlier| earlier == number));
+    }
+}
+
+#[test]
+fn numbers_that_differ_between_the_products_are_named() {
+    let page = file("docs/PROTOCOL.md");
+    let (_, after) = page.split_once(" or another size: ").expect("the sentence");
+    let (numbers, _) = after.split_once('.').expect("its end");
+    let numbers = numbers.replace('\n', " ");
+    let named: Vec<String> = numbers.split(", ").map(String::from).collect();
+    let expert = table(EXPERT_ROWS, "Number");
+    let differs = |micra: &&Vec<String>| {
+        let same_number = |cells: &&Vec<String>| cells[0] == micra[0];
+        let expert = expert.iter().find(same_number);
+        expert.is_some_and(|cells| cells[2..5] != micra[2..5]) && micra[0] != "00B9"
+    };
+    let micra = table(MICRA_ROWS, "Number");
+    let differing: Vec<String> = micra
+        .iter()
+        .filter(differs)
+        .map(|cells| cells[0].clone())
+        .collect();
+    assert_eq!(named, differing);
+}
+
+#[test]
 fn rows_take_the_functions() {
-    for (number, cells) in listed_rows() {
+    for Listed { row, cells, .. } in listed_rows() {
         let functions = members(&cells[2].replace(" to ", ".."));
         for function in 0..=255 {
             let listed = functions.contains(&u16::from(function));
-            assert_eq!(rows::all()[&number].takes(function), listed, "{cells:?}");
+            assert_eq!(row.takes(function), listed, "{cells:?}");
         }
     }
 }
 
 #[test]
 fn rows_have_the_sizes() {
-    for (number, cells) in listed_rows() {
-        let row = &rows::all()[&number];
+    for Listed { row, cells, .. } in listed_rows() {
         let sizes = range(&cells[3]);
         assert_eq!(row.room(), usize::from(*sizes.end()), "{cells:?}");
         assert_eq!(row.is_text(), cells[4] == "text", "{cells:?}");
@@ -168,29 +264,33 @@ fn rows_have_the_sizes() {
 
 #[test]
 fn rows_have_the_sets() {
-    for (number, cells) in listed_rows() {
-        let row = &rows::all()[&number];
+    for listed in listed_rows() {
+        let Listed { row, cells, .. } = &listed;
         let (set, inverts) = match cells[4].strip_suffix("; 2 inverts") {
             Some(set) => (set, true),
             None => (&cells[4][..], false),
         };
         assert_eq!(row.inverts, inverts, "{cells:?}");
+        if let Some(identity) = listed.identity(set) {
+            let only = |byte: &u8| u16::from(*byte)..=u16::from(*byte);
+            holds_bytes(&listed, &identity.iter().map(only).collect::<Vec<_>>());
+            continue;
+        }
         match set {
-            "any" => holds_bytes(row, &vec![0..=255; row.room()]),
-            "text" => holds_text(row),
-            "a date" => holds_dates(row),
-            "the ID" => holds_bytes(row, &ID.map(|byte| byte.into()..=byte.into())),
+            "any" => holds_bytes(&listed, &vec![0..=255; row.room()]),
+            "text" => holds_text(&listed),
+            "a date" => holds_dates(&listed),
             _ if set.contains(" / ") => {
                 let field = |field: &str| range(field.split_once(' ').expect("a field's name").1);
-                holds_bytes(row, &set.split(" / ").map(field).collect::<Vec<_>>());
+                holds_bytes(&listed, &set.split(" / ").map(field).collect::<Vec<_>>());
             }
-            _ => holds_numbers(row, &members(set)),
+            _ => holds_numbers(&listed, &members(set)),
         }
     }
 }
 
-fn holds_numbers(row: &Row, members: &BTreeSet<u16>) {
-    let mut record = start();
+fn holds_numbers(Listed { unit_type, row, .. }: &Listed, members: &BTreeSet<u16>) {
+    let mut record = start(*unit_type);
     for number in 0..=u16::MAX >> (16 - 8 * row.room()) {
         let held = is_held(&mut record, row.number, &number.to_le_bytes()[..row.room()]);
         let listed = members.contains(&number);
@@ -198,9 +298,9 @@ fn holds_numbers(row: &Row, members: &BTreeSet<u16>) {
     }
 }
 
-fn holds_bytes(row: &Row, ranges: &[RangeInclusive<u16>]) {
+fn holds_bytes(Listed { unit_type, row, .. }: &Listed, ranges: &[RangeInclusive<u16>]) {
     assert_eq!(ranges.len(), row.room(), "{:04X}", row.number);
-    let mut record = start();
+    let mut record = start(*unit_type);
     let lowest: Vec<u8> = ranges.iter().map(|range| *range.start() as u8).collect();
     for (place, range) in ranges.iter().enumerate() {
         for byte in 0..=255 {
@@ -215,7 +315,7 @@ fn holds_bytes(row: &Row, ranges: &[RangeInclusive<u16>]) {
 
 /// The days of a month, from the table of months.
 fn listed_days(month: u16, is_leap: bool) -> u8 {
-    let months = table("The rows", "Month");
+    let months = table("Dates and temperatures", "Month");
     let cells = months
         .iter()
         .find(|cells| members(&cells[0]).contains(&month));
@@ -226,8 +326,8 @@ fn listed_days(month: u16, is_leap: bool) -> u8 {
 }
 
 /// Each month's days with their weekdays, counted on from the Saturday of 1 January 2000, and no day before or after them.
-fn holds_dates(row: &Row) {
-    let mut record = start();
+fn holds_dates(Listed { unit_type, row, .. }: &Listed) {
+    let mut record = start(*unit_type);
     let mut weekday = 6;
     for (year, month) in (0..=99).flat_map(|year| (1..=12).map(move |month| (year, month))) {
         let days = listed_days(month.into(), year % 4 == 0);
@@ -244,8 +344,8 @@ fn holds_dates(row: &Row) {
     }
 }
 
-fn holds_text(row: &Row) {
-    let mut record = start();
+fn holds_text(Listed { unit_type, row, .. }: &Listed) {
+    let mut record = start(*unit_type);
     for byte in 0..=255 {
         let mut value = vec![b'A'; row.room()];
         value[row.room() - 1] = byte;
@@ -257,23 +357,29 @@ fn holds_text(row: &Row) {
 
 #[test]
 fn rows_start_with_the_bytes() {
-    let record = start();
-    for (number, cells) in listed_rows() {
-        let listed = match &cells[5][..] {
-            "the ID" => ID.to_vec(),
-            digits => bytes(digits),
-        };
-        assert_eq!(record.values[&number], listed, "{cells:?}");
+    for listed in listed_rows() {
+        let record = start(listed.unit_type);
+        let cell = &listed.cells[5];
+        let value = listed.identity(cell).unwrap_or_else(|| bytes(cell));
+        let number = listed.row.number;
+        assert_eq!(record.values[&number], value, "{:?}", listed.cells);
     }
 }
 
 #[test]
-fn further_numbers_of_the_guide_are_unknown() {
-    let page = file("docs/PROTOCOL.md");
-    let (_, after) = page.split_once(" unknown here: ").expect("the sentence");
-    let (numbers, _) = after.split_once('.').expect("its end");
-    for number in numbers.split(", ").map(hex_number) {
-        assert!(rows::find(number).is_none() && number != schedule::NUMBER);
+fn further_numbers_of_the_guides_are_unknown() {
+    for (section, types) in [(MICRA_ROWS, MICRA..=MICRA), (EXPERT_ROWS, units::EXPERT)] {
+        let lines = self::section(section);
+        let sentence = lines
+            .iter()
+            .find_map(|line| line.split_once(" unknown here: "));
+        let numbers = sentence.expect("the sentence").1.trim_end_matches('.');
+        for number in numbers.split(", ").map(hex_number) {
+            for unit_type in types.clone() {
+                assert!(rows::find(unit_type, number).is_none());
+                assert!(!start(unit_type).has_schedule() || number != schedule::NUMBER);
+            }
+        }
     }
 }
 
@@ -308,17 +414,37 @@ fn written_days_stand_for_the_days() {
     }
 }
 
+/// Asks a board for what the cells of an example say: function, data block and answer.
+fn answers_so(board: &mut Board, cells: &[String]) {
+    let (function, data) = (cells[0].parse().expect("a function"), &cells[1]);
+    match &cells[2][..] {
+        answer if answer == "silence" || answer.starts_with("refused ") => {
+            assert_eq!(board.ask(function, data), answer, "{cells:?}");
+        }
+        response => board.expect(function, data, response),
+    }
+}
+
 #[test]
 fn examples_are_answered_so() {
     let mut board = Board::new(PASSWORD, 1);
     for cells in table("Examples", "FUNC") {
-        let (function, data) = (cells[0].parse().expect("a function"), &cells[1]);
-        match &cells[2][..] {
-            answer if answer == "silence" || answer.starts_with("refused ") => {
-                assert_eq!(board.ask(function, data), answer, "{cells:?}");
-            }
-            response => board.expect(function, data, response),
-        }
+        answers_so(&mut board, &cells);
+    }
+}
+
+#[test]
+fn examples_of_expert_are_answered_so() {
+    let examples = table("Examples", "Type");
+    for unit_type in units::EXPERT {
+        let mut board = Board::of_type(unit_type, PASSWORD, 1);
+        let listed = unit_type.to_string();
+        let mut own = examples
+            .iter()
+            .filter(|cells| cells[0] == listed)
+            .peekable();
+        assert!(own.peek().is_some());
+        own.for_each(|cells| answers_so(&mut board, &cells[1..]));
     }
 }
 
@@ -328,12 +454,15 @@ fn the_discovery_is_answered_so() {
     let (_, after) = page
         .split_once("\nA discovery with the data block")
         .expect("the sentence");
-    let quoted: Vec<&str> = after.split('`').skip(1).step_by(2).take(3).collect();
-    let sent = packet(CODE_WORD, "", 1, quoted[0]);
-    let answer = Board::new(PASSWORD, 1).call(&format!("packet 256 {sent}"));
-    let data = [quoted[1], ZERO_ID, quoted[2]].concat();
-    let response = packet(ZERO_ID, "", 6, &data);
-    assert_eq!(answer, format!("response {response}"));
+    let quoted: Vec<&str> = after.split('`').skip(1).step_by(2).take(6).collect();
+    for (unit_type, last) in units::ALL.zip(&quoted[2..]) {
+        let sent = packet(CODE_WORD, "", 1, quoted[0]);
+        let mut board = Board::of_type(unit_type, PASSWORD, 1);
+        let answer = board.call(&format!("packet 256 {sent}"));
+        let data = [quoted[1], ZERO_ID, last].concat();
+        let response = packet(ZERO_ID, "", 6, &data);
+        assert_eq!(answer, format!("response {response}"));
+    }
 }
 
 #[test]

@@ -3,7 +3,7 @@
 use super::{Edges, ID, PASSWORD};
 
 /// Lines that have none of the forms.
-const BAD: [&str; 80] = [
+const BAD: [&str; 95] = [
     " ",
     "  ",
     "-",
@@ -83,7 +83,22 @@ const BAD: [&str; 80] = [
     "poke Id 00",
     "poke mode -",
     "poke mode 256",
-    "poke type 2",
+    "poke type",
+    "poke type -",
+    "poke type 02",
+    "poke type 256",
+    "poke Type 2",
+    "poke type 2 2",
+    "poke types 2",
+    "setup - - 1 256",
+    "setup - - 1 02",
+    "setup - - 1 -",
+    "setup - - 1 +2",
+    "setup - - 1 65538",
+    "setup - - 256 2",
+    "setup - - 1  2",
+    "setup - - 1 2 ",
+    "setup - - 1 2 2",
 ];
 
 /// Bad forms of the tool's calls.
@@ -130,6 +145,7 @@ pub fn add(edges: &mut Edges) {
     edges.rule("A bad field makes a bad line also where another field would be refused");
     edges.line("write 0 00 2A 6:0001:", "bad line");
     edges.line("setup 00 2A 256", "bad line");
+    edges.line("setup 00 2A 3 256", "bad line");
     edges.line("packet 0 fd", "bad line");
     edges.rule("Lines that are passed over: comments and empty lines");
     for line in ["", "#", "##", "# setup - - 1", "#record", "# \u{e9}\t", ""] {

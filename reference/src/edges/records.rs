@@ -7,7 +7,8 @@ use crate::packet::CODE_WORD;
 pub fn add(edges: &mut Edges) {
     refused_setups(edges);
     accepted_setups(edges);
-    measurements(edges);
+    edges.set_up(&ID, PASSWORD, 1);
+    measurements(edges, &MEASURED);
     other_measurements(edges);
     pokes(edges);
     poked_texts(edges);
@@ -70,19 +71,19 @@ const MEASURED: [(usize, &str); 5] = [
     (6, "0086 0112"),
 ];
 
-fn measurements(edges: &mut Edges) {
-    edges.set_up(&ID, PASSWORD, 1);
+/// Every row of the table, by size, on a board of mode client that holds its start values.
+pub fn measurements(edges: &mut Edges, measured: &[(usize, &str)]) {
     edges.rule("Measurement: every read-only row of its size; 31 for other lengths");
-    for (size, numbers) in MEASURED {
+    for (size, numbers) in measured {
         for number in numbers.split(' ') {
             let value = &"CEFF80017F02"[..2 * size];
             edges.line(format!("measure {number} {value}"), "accepted");
             edges.record(1, &[(number, value)]);
-            for length in (0..=8).filter(|length| *length != size) {
+            for length in (0..=8).filter(|length| length != size) {
                 let other = hex::field(&vec![1; length]);
                 edges.line(format!("measure {number} {other}"), "refused 31");
             }
-            for value in ["FF".repeat(size), "00".repeat(size)] {
+            for value in ["FF".repeat(*size), "00".repeat(*size)] {
                 edges.line(format!("measure {number} {value}"), "accepted");
             }
         }
@@ -182,11 +183,8 @@ const ILLEGAL_ROWS: &str = "0001 02 | 0007 03 | 0014 FF | 0015 02 | 0068 02 | 00
 fn illegal_rows(edges: &mut Edges) {
     edges.rule("70: a writable row outside its set");
     for entry in entries(ILLEGAL_ROWS) {
-        let (number, value) = entry.split_once(' ').expect("number and value");
         edges.set_up(&ID, PASSWORD, 1);
-        edges.line(format!("poke {number} {value}"), "poked");
-        meet(edges);
-        edges.record(1, &[(number, value)]);
+        illegal_row(edges, entry);
     }
     edges.rule("A poke back makes the record legal again; tool, listing and set-up take no record");
     edges.line("poke 0096 3030303030303030", "poked");
@@ -200,6 +198,14 @@ fn illegal_rows(edges: &mut Edges) {
     edges.line("list -", "refused,2");
     edges.line("setup 00 - 1", "refused 20");
     edges.line("record", record(&ZERO_ID, b"", 1, &[]));
+}
+
+/// A row poked to a value outside its set, on a board of mode client that holds its start values.
+pub fn illegal_row(edges: &mut Edges, poke: &str) {
+    let (number, value) = poke.split_once(' ').expect("number and value");
+    edges.line(format!("poke {poke}"), "poked");
+    meet(edges);
+    edges.record(1, &[(number, value)]);
 }
 
 /// Pokes that spoil the identity; CODE stands for the code word.

@@ -4,9 +4,10 @@ use super::{Edges, ID, PASSWORD};
 
 pub fn add(edges: &mut Edges) {
     edges.set_up(&ID, PASSWORD, 1);
-    byte_edges(edges);
+    byte_edges(edges, [ordered_rows(), other_rows()].concat());
+    switches(edges, &[0x01, 0x07, 0x14, 0x15, 0x68, 0x72, 0x9B]);
     edges.set_up(&ID, PASSWORD, 2);
-    walks(edges);
+    walks(edges, ordered_rows());
     filter_timer(edges);
     fan_speeds(edges);
     edges.set_up(&ID, PASSWORD, 1);
@@ -77,8 +78,9 @@ fn all_bytes(edges: &mut Edges, number: u16, start: u8, after: impl Fn(u8, u8) -
     }
 }
 
-fn byte_edges(edges: &mut Edges) {
-    for (number, members) in [ordered_rows(), other_rows()].concat() {
+/// All bytes, and the edges of the set, of rows of one byte with these members.
+pub fn byte_edges(edges: &mut Edges, rows: Vec<(u16, Vec<u8>)>) {
+    for (number, members) in rows {
         edges.rule(&format!("{number:04X}: all 256 bytes written under 03"));
         let start = if number == 0x0037 { 100 } else { members[0] };
         all_bytes(edges, number, start, |held, byte| {
@@ -90,7 +92,8 @@ fn byte_edges(edges: &mut Edges) {
         let (page, low) = place(number);
         let (first, last) = (members[0], members[members.len() - 1]);
         let read = format!("{page} {low}");
-        let write = format!("{page} {low} {first:02X} {low} {:02X}", last + 1);
+        let past = last.wrapping_add(1);
+        let write = format!("{page} {low} {first:02X} {low} {past:02X}");
         edges.ask(2, &write, "silence");
         edges.expect(1, &read, &format!("{page} {low} {first:02X}"));
         let write = format!("{page} FE 01 {low} {last:02X} {low} FF");
@@ -99,9 +102,12 @@ fn byte_edges(edges: &mut Edges) {
         let two_bytes = format!("{page} FE 02 {low} {first:02X} 00");
         edges.expect(3, &two_bytes, &format!("{page} {low} {last:02X}"));
     }
+}
+
+pub fn switches(edges: &mut Edges, numbers: &[u16]) {
     edges.rule("Switches: all 256 bytes; 2 inverts");
-    for number in [0x01, 0x07, 0x14, 0x15, 0x68, 0x72, 0x9B] {
-        all_bytes(edges, number, 0, |held, byte| match byte {
+    for number in numbers {
+        all_bytes(edges, *number, 0, |held, byte| match byte {
             0 | 1 => byte,
             2 => 1 - held,
             _ => held,
@@ -110,28 +116,33 @@ fn byte_edges(edges: &mut Edges) {
 }
 
 /// From the lowest value up through the set and past its end, and down again.
-fn walks(edges: &mut Edges) {
-    for (number, members) in ordered_rows() {
+pub fn walks(edges: &mut Edges, rows: Vec<(u16, Vec<u8>)>) {
+    for (number, members) in rows {
         edges.rule(&format!(
             "{number:04X}: raised through its set and past the end, then lowered"
         ));
         let (page, low) = place(number);
         edges.ask(2, &format!("{page} {low} {:02X}", members[0]), "silence");
-        let steps = |values: &mut dyn Iterator<Item = &u8>, end: u8| -> String {
-            let reports: String = values.map(|value| format!("{low} {value:02X}")).collect();
-            format!("{page} {reports} {low} {end:02X}")
-        };
-        let data = format!("{page} {}", low.repeat(members.len()));
         let last = members[members.len() - 1];
-        let up = steps(&mut members[1..].iter(), last);
-        edges.expect(4, &data, &up);
-        let down = steps(&mut members[..members.len() - 1].iter().rev(), members[0]);
-        edges.expect(5, &data, &down);
+        let up = [&members[1..], &[last]].concat();
+        let down: Vec<u8> = members.iter().rev().skip(1).copied().collect();
+        let down = [&down[..], &members[..1]].concat();
+        for (function, steps) in [(4, up), (5, down)] {
+            // A response has room for 114 reports.
+            for part in steps.chunks(110) {
+                let data = format!("{page} {}", low.repeat(part.len()));
+                let reports: String = part
+                    .iter()
+                    .map(|value| format!("{low} {value:02X}"))
+                    .collect();
+                edges.expect(function, &data, &format!("{page} {reports}"));
+            }
+        }
     }
 }
 
 /// Reports of 0063, one after another.
-fn filter_reports(days: &[u16]) -> String {
+pub fn filter_reports(days: &[u16]) -> String {
     days.iter()
         .map(|days| {
             let [low, high] = days.to_le_bytes();

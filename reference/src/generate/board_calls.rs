@@ -7,6 +7,7 @@ use crate::hex;
 use crate::packet::{self, CODE_WORD, LONGEST, SHORTEST};
 use crate::record::{ACCESS_POINT, CLIENT};
 use crate::rows::{self, Access};
+use crate::units;
 
 /// The most data that fits beside a password.
 pub fn room(password: &[u8]) -> usize {
@@ -16,7 +17,7 @@ pub fn room(password: &[u8]) -> usize {
 impl Generator {
     /// A set-up, mostly a legal one; each field may be illegal by itself.
     pub fn set_up(&mut self) {
-        let chance = self.random.pick(&[0, 0, 30]);
+        let chance = self.random.pick(&[0, 40, 50]);
         let random = &mut self.random;
         let id = match random.chance(chance) {
             true => identities::illegal_id(random),
@@ -30,8 +31,35 @@ impl Generator {
             true => random.pick(&[0, 3, 4, 128, 254, 255]),
             false => random.pick(&[CLIENT, ACCESS_POINT]),
         };
-        self.call(Call::Setup { id, password, mode });
+        let unit_type = match random.chance(chance) {
+            true => identities::illegal_type(random),
+            false => identities::legal_type(random),
+        };
+        let unit_type = identities::type_field(random, unit_type);
+        self.call(Call::Setup {
+            id,
+            password,
+            mode,
+            unit_type,
+        });
         self.show_record_sometimes(30);
+    }
+
+    /// A legal set-up of a board of this type.
+    pub fn set_up_type(&mut self, unit_type: u8) {
+        let random = &mut self.random;
+        let (id, password) = (
+            identities::legal_id(random),
+            identities::legal_password(random),
+        );
+        let mode = random.pick(&[CLIENT, ACCESS_POINT]);
+        let unit_type = identities::type_field(random, unit_type);
+        self.call(Call::Setup {
+            id,
+            password,
+            mode,
+            unit_type,
+        });
     }
 
     /// Sends a packet with some buffer and gives the response, if there is one.
@@ -86,8 +114,7 @@ impl Generator {
 
     /// Many commands on one row in one packet: writes at the edges, raises, lowers and reads.
     pub fn one_row(&mut self) {
-        let rows: Vec<u16> = rows::all().keys().copied().collect();
-        let number = self.random.pick(&rows);
+        let number = self.row_of_the_board();
         let mut commands = Vec::new();
         for _ in 0..self.random.between(1, 9) {
             let function = self.random.pick(&[1, 2, 3, 3, 4, 4, 4, 5, 5, 5]);
@@ -107,6 +134,16 @@ impl Generator {
         let response = self.send(&packet);
         self.read_response_sometimes(&packet, response);
         self.show_record_sometimes(10);
+    }
+
+    /// A row that the board's type has in most cases.
+    fn row_of_the_board(&mut self) -> u16 {
+        let rows = rows::of(self.session.record.unit_type).keys();
+        let rows: Vec<u16> = rows.copied().collect();
+        if rows.is_empty() || self.random.chance(15) {
+            return values::number(&mut self.random);
+        }
+        self.random.pick(&rows)
     }
 
     pub fn search(&mut self) {
@@ -240,10 +277,15 @@ impl Generator {
         let function = self.random.pick(&[1, 1, 4, 5]);
         data.extend_from_slice(&[0xFC, function]);
         let mut target = target;
-        // An entry's report has nine bytes.
+        // An entry's report has nine bytes; on VENTO Expert 0077 is unknown.
+        let report = if self.session.record.has_schedule() {
+            9
+        } else {
+            2
+        };
         for _ in 0..self.random.pick(&[0, 1, 3, 14]) * usize::from(function == 1) {
             data.extend(self.entry_read());
-            target -= 9;
+            target -= report;
         }
         data.extend(self.reads_with_response_of(target));
         let packet = packet::write(&id, &password, 2, &data);
@@ -267,7 +309,7 @@ impl Generator {
             }
         }
         if rest % 2 == 1 {
-            reads.push(self.random.pick(&[0x1E, 0x22, 0x63, 0x6A, 0xB9]));
+            reads.push(self.low_byte_of_two_bytes());
             rest -= 5;
         }
         for _ in 0..rest / 2 {
@@ -277,6 +319,14 @@ impl Generator {
             );
         }
         reads
+    }
+
+    /// A row on page 0 that holds two bytes, as 00B9 does on every type.
+    fn low_byte_of_two_bytes(&mut self) -> u8 {
+        let values = self.session.record.values.iter();
+        let rows = values.filter(|(number, value)| **number < 0x0100 && value.len() == 2);
+        let rows: Vec<u8> = rows.map(|(number, _)| *number as u8).collect();
+        self.random.pick(&rows)
     }
 
     /// The same for a search, whose response has reports of 19 and 5 bytes only.
@@ -304,9 +354,17 @@ impl Generator {
         self.read_response_sometimes(&packet, response);
     }
 
-    /// A row that is read only.
+    /// A row that is read only, mostly one of the board's type.
     pub fn measured_row(&mut self) -> u16 {
-        let measured: Vec<u16> = rows::all()
+        let (own, any) = (
+            self.session.record.unit_type,
+            identities::legal_type(&mut self.random),
+        );
+        let unit_type = match units::ALL.contains(&own) && self.random.chance(75) {
+            true => own,
+            false => any,
+        };
+        let measured: Vec<u16> = rows::of(unit_type)
             .values()
             .filter(|row| row.access == Access::ReadOnly)
             .map(|row| row.number)
@@ -318,10 +376,11 @@ impl Generator {
     pub fn measurement(&mut self) {
         let row = self.measured_row();
         let any = values::number(&mut self.random);
-        let number = self
-            .random
-            .pick(&[row, row, row, any, 0x007C, 0x00B9, 0x0077]);
-        let size = rows::find(number).map_or(1, |row| row.room());
+        let countdown = self.random.pick(&[0x000B, 0x0064, 0x0064]);
+        let number = self.random.pick(&[
+            row, row, row, row, countdown, countdown, countdown, any, 0x007C, 0x00B9, 0x0077,
+        ]);
+        let size = values::row(&mut self.random, number).map_or(1, |row| row.room());
         let length = match self.random.chance(75) {
             true => size,
             false => self.random.pick(&[0, 1, size - 1, size + 1, size * 2, 100]),

@@ -194,7 +194,8 @@ fn malformed(random: &mut Random, direction: u8, id: &[u8], password: &[u8]) -> 
 pub fn exchange(random: &mut Random, ids: &[Vec<u8>], records: &mut Vec<Captured>) {
     let index = index(random, ids.len());
     let (id, password) = (&ids[index], identities::legal_password(random));
-    let (mut board, _) = record::setup(id, &password, ACCESS_POINT);
+    let unit_type = identities::legal_type(random);
+    let (mut board, _) = record::setup(id, &password, ACCESS_POINT, unit_type);
     let request = well_formed(random, REQUEST, id, &password);
     let mut buffer = [0; LONGEST];
     let answer = board::packet(&mut board, &request, &mut buffer);

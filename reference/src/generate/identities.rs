@@ -1,7 +1,8 @@
-//! IDs and passwords, legal or not.
+//! IDs, passwords and unit types, legal or not.
 
 use crate::packet::CODE_WORD;
 use crate::random::Random;
+use crate::units::MICRA;
 
 const PASSWORD_CHARACTERS: &[u8] =
     b"0123456789abcdefghijklmnopqrstuvwxyzABCDEFGHIJKLMNOPQRSTUVWXYZ";
@@ -103,22 +104,44 @@ pub fn other_password(random: &mut Random, held: &[u8]) -> Vec<u8> {
     }
 }
 
+/// A unit type that set-up takes, in half of the cases Micra.
+pub fn legal_type(random: &mut Random) -> u8 {
+    random.pick(&[MICRA, MICRA, MICRA, 3, 4, 5])
+}
+
+/// A number that is no unit type.
+pub fn illegal_type(random: &mut Random) -> u8 {
+    let any = random.between(6, 255) as u8;
+    random.pick(&[0, 1, 6, 6, 0x82, 255, any])
+}
+
+/// The unit type as a field of set-up, where Micra may be left out.
+pub fn type_field(random: &mut Random, unit_type: u8) -> Option<u8> {
+    Some(unit_type).filter(|unit_type| *unit_type != MICRA || random.chance(50))
+}
+
 #[cfg(test)]
 mod tests {
     use super::*;
     use crate::record::setup;
+    use crate::refusal::Refusal;
 
     #[test]
     fn each_kind_is_what_its_name_says() {
         let mut random = Random::new(3);
         for _ in 0..2_000 {
             let (id, password) = (legal_id(&mut random), legal_password(&mut random));
-            assert!(setup(&id, &password, 1).1.is_ok());
-            assert!(setup(&illegal_id(&mut random), &password, 1).1.is_err());
+            let unit_type = legal_type(&mut random);
+            let answer =
+                |id: &[u8], password: &[u8], unit_type| setup(id, password, 1, unit_type).1;
+            assert!(answer(&id, &password, unit_type).is_ok());
+            assert!(answer(&illegal_id(&mut random), &password, unit_type).is_err());
             let illegal = illegal_password(&mut random);
-            assert!(setup(&id, &illegal, 1).1.is_err());
+            assert!(answer(&id, &illegal, unit_type).is_err());
+            let illegal = illegal_type(&mut random);
+            assert_eq!(answer(&id, &password, illegal), Err(Refusal::SetupType));
             let strange = strange_password(&mut random);
-            assert!(strange.len() <= 8 && setup(&id, &strange, 1).1.is_err());
+            assert!(strange.len() <= 8 && answer(&id, &strange, unit_type).is_err());
             let other = other_password(&mut random, &password);
             assert!(other.len() <= 8 && other != password);
             assert_eq!(other_id(&mut random, &id).len(), 16);

@@ -57,11 +57,13 @@ impl Generator {
             identities::legal_password(&mut self.random),
         );
         let mode = self.random.pick(&[CLIENT, ACCESS_POINT]);
+        let unit_type = identities::legal_type(&mut self.random);
         let own = Identity { id, password };
         let mut calls = vec![Call::Setup {
             id: own.id.clone(),
             password: own.password.clone(),
             mode,
+            unit_type: Some(unit_type),
         }];
         for _ in 0..self.random.between(0, 2) {
             let call = match self.random.chance(70) {

@@ -6,7 +6,7 @@ use crate::call::Call;
 use crate::hex;
 
 /// Lines that have none of the forms.
-const BAD_LINES: [&str; 44] = [
+const BAD_LINES: [&str; 50] = [
     " ",
     "-",
     "Record",
@@ -23,6 +23,9 @@ const BAD_LINES: [&str; 44] = [
     "setup - - -1",
     "setup - - 4294967297",
     "setup  - 1",
+    "setup - - 1 256",
+    "setup - - 1 02",
+    "setup - - 1 2 2",
     "packet 1025 -",
     "packet 0256 -",
     "packet 256",
@@ -35,6 +38,9 @@ const BAD_LINES: [&str; 44] = [
     "measure 0x1E 00",
     "poke mode 18446744073709551617",
     "poke modes 1",
+    "poke type -",
+    "poke type 256",
+    "poke types 2",
     "poke 00001 00",
     "poke 0077:0.1 00",
     "poke 0077:8.1 00",

@@ -20,7 +20,7 @@ impl Generator {
 
     fn poked_value(&mut self, number: u16) -> Vec<u8> {
         let random = &mut self.random;
-        let Some(row) = rows::find(number) else {
+        let Some(row) = values::row(random, number) else {
             return values::value(random, number);
         };
         match random.between(0, 9) {
@@ -67,6 +67,28 @@ impl Generator {
             }
         }
         self.meet_the_record();
+    }
+
+    /// Writes the unit type past all checks, mostly for a few calls only.
+    pub fn poke_type(&mut self) {
+        let held = self.session.record.unit_type;
+        let random = &mut self.random;
+        let (legal, illegal) = (
+            identities::legal_type(random),
+            identities::illegal_type(random),
+        );
+        let unit_type = random.pick(&[legal, illegal]);
+        self.call(Call::PokeType(unit_type));
+        self.meet_the_record();
+        if self.random.chance(40) {
+            // Where the type is another one of 2 to 5, `line` leaves these out: they are not stated.
+            self.poke_row();
+            self.poke_entry();
+        }
+        if self.random.chance(85) {
+            self.call(Call::PokeType(held));
+            self.show_record_sometimes(50);
+        }
     }
 
     fn poked_id(&mut self) -> Vec<u8> {

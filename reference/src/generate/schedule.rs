@@ -5,6 +5,7 @@ use crate::block::{self, Command};
 use crate::call::Call;
 use crate::random::Random;
 use crate::schedule::{DAYS, Entry, FIELDS, NUMBER};
+use crate::units::MICRA;
 
 /// The ends of each field's range, and bytes just outside it or far from it.
 const BOUNDS: [(&[u8], &[u8]); 4] = [
@@ -66,10 +67,10 @@ pub fn write(random: &mut Random) -> Vec<u8> {
     let mut value = vec![written, period(random)];
     value.extend_from_slice(&entry(random, 40));
     let any = random.between(10, 255) as u8;
-    match random.between(0, 17) {
-        0 => value[0] = random.pick(&[10, any]),
-        1..=3 => value[1] = bad_period(random),
-        4 => {
+    match random.between(0, 19) {
+        0 | 1 => value[0] = random.pick(&[10, any]),
+        2..=4 => value[1] = bad_period(random),
+        5 | 6 => {
             let length = random.pick(&[1, 2, 3, 4, 5, 5, 5, 7, 7, 7, 8, 12, 28]);
             value.resize(length, 0);
         }
@@ -104,8 +105,11 @@ fn item(value: &[u8]) -> Vec<u8> {
 }
 
 impl Generator {
-    /// Several commands on 0077 in one packet, now and then others between them.
+    /// Several commands on 0077 in one packet, now and then others between them; mostly to a board that has a schedule.
     pub fn schedule_traffic(&mut self) {
+        if !self.session.record.has_schedule() && self.random.chance(60) {
+            self.set_up_type(MICRA);
+        }
         let mut commands = Vec::new();
         for _ in 0..self.random.between(1, 8) {
             let function = self.random.pick(&[1, 1, 2, 2, 2, 3, 3, 3, 3, 4, 5]);

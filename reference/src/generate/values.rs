@@ -1,22 +1,35 @@
 //! Values for rows: legal ones, those at the edges of each set, and those of a wrong length.
 
-use super::{calendar, schedule};
+use super::{calendar, identities, schedule};
 use crate::random::Random;
 use crate::rows::{self, Row, Values};
 use crate::schedule::NUMBER;
+use crate::units::MICRA;
 
-/// A number: mostly of a row, else that of the schedule, unknown or anything.
+/// A type of each product that has all of its rows.
+const FULL_TYPES: [u8; 2] = [MICRA, 3];
+
+/// The row that one of the products has under a number; none if neither has one.
+pub fn row(random: &mut Random, number: u16) -> Option<&'static Row> {
+    let rows = FULL_TYPES.map(|unit_type| rows::find(unit_type, number));
+    let rows: Vec<&Row> = rows.into_iter().flatten().collect();
+    (!rows.is_empty()).then(|| random.pick(&rows))
+}
+
+/// A number: mostly of a row of any unit type, else that of the schedule, unknown or anything.
 pub fn number(random: &mut Random) -> u16 {
-    let rows: Vec<u16> = rows::all().keys().copied().collect();
+    let rows = rows::of(identities::legal_type(random)).keys();
+    let rows: Vec<u16> = rows.copied().collect();
     let row = random.pick(&rows);
     let unknown = random.pick(&[
-        0x0000, 0x0004, 0x0005, 0x0010, 0x0024, 0x0025, 0x0038, 0x0044, 0x0048, 0x0065, 0x0177,
-        0x007D, 0x007E, 0x007F, 0x0080, 0x0081, 0x0083, 0x0085, 0x0087, 0x00A0, 0x00A2, 0x00FB,
-        0x0101, 0x0102, 0x0104, 0x017C, 0x01B9, 0x0240, 0x0403, 0x0406, 0x047C, 0x7C00, 0xFF01,
+        0x0000, 0x0004, 0x0005, 0x0010, 0x0023, 0x0026, 0x0038, 0x0048, 0x0049, 0x0065, 0x0177,
+        0x007D, 0x007F, 0x0080, 0x0081, 0x0082, 0x0085, 0x0087, 0x00A0, 0x00A2, 0x00FB, 0x0101,
+        0x0102, 0x0104, 0x017C, 0x01B9, 0x0240, 0x0301, 0x0306, 0x0403, 0x0406, 0x047C, 0x7C00,
+        0xFF01,
     ]);
     let any = u16::from_be_bytes([random.byte(), random.byte() % 0xFC]);
     let page = random.byte();
-    let page = random.pick(&[0, 1, 2, 4, 8, 16, 32, 64, 128, page]);
+    let page = random.pick(&[0, 1, 2, 3, 4, 8, 16, 32, 64, 128, page]);
     let other_page = u16::from_be_bytes([page, row as u8]);
     match random.between(0, 41) {
         0..=31 => row,
@@ -27,9 +40,9 @@ pub fn number(random: &mut Random) -> u16 {
     }
 }
 
-/// A value for a number, 1 to 255 bytes: mostly legal or close to it.
+/// A value for a number, 1 to 255 bytes: mostly legal on one of the products or close to it.
 pub fn value(random: &mut Random, number: u16) -> Vec<u8> {
-    let mut value = match rows::find(number) {
+    let mut value = match row(random, number) {
         None if number == NUMBER => schedule::write(random),
         None => {
             let length = random.pick(&[1, 1, 1, 2, 4, 6]);
@@ -55,9 +68,10 @@ pub fn value(random: &mut Random, number: u16) -> Vec<u8> {
 /// A value of the row's set.
 pub fn legal(random: &mut Random, row: &Row) -> Vec<u8> {
     match &row.values {
-        Values::Number { size, members } => {
+        Values::Number { size, .. } => {
+            let members = row.members();
             let ends = [members[0], members[members.len() - 1]];
-            let any = random.pick(members);
+            let any = random.pick(&members);
             number_bytes(random.pick(&[ends[0], ends[1], any, any]), *size)
         }
         Values::Bytes(ranges) => ranges
@@ -84,8 +98,9 @@ pub fn legal(random: &mut Random, row: &Row) -> Vec<u8> {
 /// A value of the row's size at or just past an edge of its set.
 pub fn edge(random: &mut Random, row: &Row) -> Vec<u8> {
     match &row.values {
-        Values::Number { size, members } => {
-            let member = random.pick(members);
+        Values::Number { size, .. } => {
+            let members = row.members();
+            let member = random.pick(&members);
             let ends = [members[0], members[members.len() - 1]];
             let near = random.pick(&[ends[0], ends[1], member]);
             let step = random.pick(&[0, 1, 1, 2, 5, 256]);
@@ -148,7 +163,7 @@ mod tests {
     #[test]
     fn legal_values_are_legal_and_edges_lie_on_both_sides() {
         let mut random = Random::new(1);
-        for row in rows::all().values() {
+        for row in FULL_TYPES.iter().flat_map(|full| rows::of(*full).values()) {
             let drawn: Vec<bool> = (0..400)
                 .map(|_| {
                     let value = edge(&mut random, row);
@@ -162,7 +177,11 @@ mod tests {
     }
 
     fn is_free(row: &Row) -> bool {
-        matches!(&row.values, Values::Bytes(ranges) if ranges.iter().all(|range| *range == (0, 255)))
+        match &row.values {
+            Values::Number { size, .. } => *size == 1 && row.members().len() == 256,
+            Values::Bytes(ranges) => ranges.iter().all(|range| *range == (0, 255)),
+            _ => false,
+        }
     }
 
     #[test]

@@ -56,7 +56,9 @@ pub fn met(line: &str, answer: &str, record: &Record) -> Vec<String> {
 /// Whether a record is illegal because of its calendar alone.
 fn is_illegal(record: &Record) -> bool {
     let mut mended = record.clone();
-    let row = rows::find(CALENDAR_ROW).expect("the calendar is a row");
+    let Some(row) = rows::find(record.unit_type, CALENDAR_ROW) else {
+        return false;
+    };
     let held = mended.values.insert(row.number, row.start());
     mended.check().is_ok() && !held.is_some_and(|held| row.contains(&held))
 }
@@ -95,11 +97,12 @@ mod tests {
     use crate::generate;
     use crate::packet;
     use crate::record::{CLIENT, setup};
+    use crate::units::MICRA;
 
     const ID: [u8; 16] = *b"002D6E1B34565815";
 
     fn names(id: &[u8], data: &[u8], answer: &str) -> Vec<String> {
-        let (record, _) = setup(&ID, b"", CLIENT);
+        let (record, _) = setup(&ID, b"", CLIENT, MICRA);
         let packet = packet::write(id, b"", 3, data);
         let length = 256;
         met(
@@ -149,7 +152,7 @@ mod tests {
 
     #[test]
     fn a_refused_record_is_named_where_the_calendar_alone_is_illegal() {
-        let (mut record, _) = setup(&ID, b"", CLIENT);
+        let (mut record, _) = setup(&ID, b"", CLIENT, MICRA);
         assert!(met("packet 0 -", "refused 70", &record).is_empty());
         record.values.insert(CALENDAR_ROW, vec![1, 1, 1, 0]);
         assert_eq!(

@@ -1,4 +1,4 @@
-//! What calls meet of the weekly schedule: the outcome of each command on 0077, and what else names an entry.
+//! What calls meet of the weekly schedule of Micra: the outcome of each command on 0077, and what else names an entry.
 
 use super::{is_search, request};
 use crate::block::Command;
@@ -101,7 +101,7 @@ pub fn met(line: &str, answer: &str, record: &Record) -> Vec<String> {
 
 fn call_name(call: &Call, answer: &str, record: &Record) -> Option<String> {
     let name = match call {
-        Call::PokeEntry { .. } => "poke of an entry",
+        Call::PokeEntry { .. } if record.has_schedule() => "poke of an entry",
         Call::PokeRow { number, .. } if *number == NUMBER => "poke without a place",
         Call::Measure { .. } if answer == "refused 70" => {
             illegal_field(record)?;
@@ -109,10 +109,15 @@ fn call_name(call: &Call, answer: &str, record: &Record) -> Option<String> {
         }
         Call::Measure { number, .. } if *number == NUMBER => "measure refused 30",
         Call::Read { .. } if answer.contains(" 0077=0") => "entry read by the tool",
-        Call::Record if record.schedule != Schedule::start() => "entries in the record",
+        Call::Record if has_entries(record) => "entries in the record",
         _ => return None,
     };
     Some(name.to_string())
+}
+
+/// Whether the record shows an entry that is not at its start.
+fn has_entries(record: &Record) -> bool {
+    record.has_schedule() && record.schedule != Schedule::start()
 }
 
 /// The first bad field of a record that is illegal because of its entries alone.
@@ -133,7 +138,7 @@ fn packet_names(packet: &[u8], answer: &str, record: &Record) -> Vec<String> {
         let field = illegal_field(record).map(word);
         return Vec::from_iter(field.map(|field| format!("packet refused 70, bad {field}")));
     }
-    let Some((id, mut commands)) = request(packet) else {
+    let Some((id, mut commands)) = request(packet).filter(|_| record.has_schedule()) else {
         return Vec::new();
     };
     commands.retain(|command| command.number == NUMBER);
@@ -262,12 +267,13 @@ mod tests {
     use super::*;
     use crate::packet::{self, CODE_WORD};
     use crate::record::{CLIENT, setup};
+    use crate::units::MICRA;
 
     const ID: [u8; 16] = *b"002D6E1B34565815";
 
     /// The names that a packet's call meets, without their number.
     fn names(id: &[u8], function: u8, data: &[u8], answer: &str) -> Vec<String> {
-        let (record, _) = setup(&ID, b"", CLIENT);
+        let (record, _) = setup(&ID, b"", CLIENT, MICRA);
         let length = 256;
         let packet = packet::write(id, b"", function, data);
         let line = Call::Packet { length, packet }.to_string();
@@ -348,7 +354,7 @@ mod tests {
 
     #[test]
     fn other_calls_are_named_by_the_record() {
-        let (mut record, _) = setup(&ID, b"", CLIENT);
+        let (mut record, _) = setup(&ID, b"", CLIENT, MICRA);
         assert!(met("packet 0 -", "refused 70", &record).is_empty());
         assert!(met("record", "record id=", &record).is_empty());
         record.schedule.poke(7, 4, &[0, 0, 60, 24]);

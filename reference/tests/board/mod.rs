@@ -24,13 +24,18 @@ pub struct Board {
 }
 
 impl Board {
+    /// A Micra.
     pub fn new(password: &'static str, mode: u8) -> Board {
+        Board::of_type(2, password, mode)
+    }
+
+    pub fn of_type(unit_type: u8, password: &'static str, mode: u8) -> Board {
         let mut board = Board {
             session: Session::new(),
             password,
         };
         let shown = if password.is_empty() { "-" } else { password };
-        let answer = board.call(&format!("setup {ZERO_ID} {shown} {mode}"));
+        let answer = board.call(&format!("setup {ZERO_ID} {shown} {mode} {unit_type}"));
         assert_eq!(answer, "accepted");
         board
     }
