@@ -70,8 +70,8 @@ const BOARD_SCENARIOS: [Weighted; 26] = [
 /// What a board of VENTO Expert is tried with in its turn.
 const EXPERT_SCENARIOS: [Weighted; 8] = [
     (6, Generator::rightful_traffic),
-    (8, Generator::one_row),
-    (12, Generator::measurement),
+    (14, Generator::one_row),
+    (14, Generator::measurement),
     (4, Generator::search),
     (1, Generator::stranger),
     (1, Generator::full_response),

@@ -116,8 +116,8 @@ impl Generator {
     pub fn one_row(&mut self) {
         let number = self.row_of_the_board();
         let mut commands = Vec::new();
-        for _ in 0..self.random.between(1, 9) {
-            let function = self.random.pick(&[1, 2, 3, 3, 4, 4, 4, 5, 5, 5]);
+        for _ in 0..self.random.between(1, 12) {
+            let function = self.random.pick(&[1, 2, 3, 3, 3, 4, 4, 4, 5, 5, 5]);
             let value = match function {
                 2 | 3 => values::value(&mut self.random, number),
                 _ => Vec::new(),
@@ -128,11 +128,7 @@ impl Generator {
                 value,
             });
         }
-        let (id, password) = (self.rightful_id(), self.password());
-        let data = block::write_request(&commands);
-        let packet = packet::write(&id, &password, block::first_function(&commands), &data);
-        let response = self.send(&packet);
-        self.read_response_sometimes(&packet, response);
+        self.send_commands(commands);
         self.show_record_sometimes(10);
     }
 

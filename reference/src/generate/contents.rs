@@ -89,7 +89,7 @@ fn counter(random: &mut Random) -> Vec<u8> {
     if random.chance(75) {
         return random.pick(&COUNTERS).as_bytes().to_vec();
     }
-    let count = random.between(1, 24);
+    let count = random.between(1, 28);
     let digits = (0..count).map(|_| random.pick(b"0123456789"));
     digits.collect()
 }

@@ -4,6 +4,7 @@ use super::{Generator, identities, values};
 use crate::call::Call;
 use crate::packet::CODE_WORD;
 use crate::rows;
+use crate::units;
 
 impl Generator {
     /// Writes one row past all checks, mostly so that the record becomes illegal.
@@ -36,9 +37,9 @@ impl Generator {
         }
     }
 
-    /// Writes ID, password or mode past all checks, sometimes to another legal identity.
+    /// Writes ID, password, mode or 00B9 past all checks, sometimes to another legal identity.
     pub fn poke_identity(&mut self) {
-        match self.random.between(0, 6) {
+        match self.random.between(0, 8) {
             0 => {
                 let id = self.poked_id();
                 self.call(Call::PokeId(id));
@@ -61,12 +62,34 @@ impl Generator {
                 let password = identities::legal_password(&mut self.random);
                 self.call(Call::PokePassword(password));
             }
+            5 | 6 => self.poke_type_row(),
             _ => {
                 let mode = self.random.pick(&[0, 1, 1, 2, 2, 3, 255]);
                 self.call(Call::PokeMode(mode));
             }
         }
         self.meet_the_record();
+    }
+
+    /// Writes 00B9 past all checks, close to the unit type, and mostly back.
+    fn poke_type_row(&mut self) {
+        let number = rows::UNIT_TYPE_ROW;
+        let unit_type = self.session.record.unit_type;
+        let high = self.random.pick(&[1, 0x80, unit_type]);
+        let value = self.random.pick(&[
+            vec![unit_type, high],
+            vec![unit_type ^ 1, 0],
+            vec![unit_type ^ 0x80, 0],
+            vec![0, unit_type],
+            vec![unit_type],
+            Vec::new(),
+        ]);
+        self.call(Call::PokeRow { number, value });
+        self.meet_the_record();
+        if self.random.chance(80) {
+            let value = units::row_value(unit_type);
+            self.call(Call::PokeRow { number, value });
+        }
     }
 
     /// Writes the unit type past all checks, mostly for a few calls only.

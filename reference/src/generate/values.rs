@@ -48,6 +48,7 @@ pub fn value(random: &mut Random, number: u16) -> Vec<u8> {
             let length = random.pick(&[1, 1, 1, 2, 4, 6]);
             random.bytes(length)
         }
+        Some(row) if row.inverts && random.chance(20) => vec![2],
         Some(row) => match random.between(0, 9) {
             0..=4 => legal(random, row),
             5..=7 => edge(random, row),
@@ -102,8 +103,8 @@ pub fn edge(random: &mut Random, row: &Row) -> Vec<u8> {
             let members = row.members();
             let member = random.pick(&members);
             let ends = [members[0], members[members.len() - 1]];
-            let near = random.pick(&[ends[0], ends[1], member]);
-            let step = random.pick(&[0, 1, 1, 2, 5, 256]);
+            let near = random.pick(&[ends[0], ends[1], ends[0], ends[1], member]);
+            let step = random.pick(&[0, 1, 1, 1, 2, 5, 256]);
             let past = random.pick(&[near.wrapping_add(step), near.wrapping_sub(step)]);
             number_bytes(past, *size)
         }
