@@ -1001,7 +1001,7 @@ pub const PLACE: [u8; ROWS] = [
     196,
 ];
 
-pub const EXTRA: [u16; ROWS] = [
+pub const EXTRA: [u8; ROWS] = [
     0,
     1,
     3,
@@ -1126,7 +1126,7 @@ pub const EXTRA: [u16; ROWS] = [
     0,
 ];
 
-pub const LOW: [u16; ROWS] = [
+pub const LOW: [u8; ROWS] = [
     0,
     1,
     5,
@@ -1376,7 +1376,7 @@ pub const HIGH: [u16; ROWS] = [
     0,
 ];
 
-pub const STEP: [u16; ROWS] = [
+pub const STEP: [u8; ROWS] = [
     1,
     1,
     1,

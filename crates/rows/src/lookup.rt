@@ -96,10 +96,10 @@ pub fn range_at(index: usize) -> Range
 {
     if index < columns::ROWS {
         return Range {
-            extra: columns::EXTRA[index],
-            low: columns::LOW[index],
+            extra: octets::to_u16(columns::EXTRA[index]),
+            low: octets::to_u16(columns::LOW[index]),
             high: columns::HIGH[index],
-            step: columns::STEP[index],
+            step: octets::to_u16(columns::STEP[index]),
         };
     }
     Range {

@@ -7,17 +7,17 @@ use Rattle.rows.proofs.Tables.{range-columns, no-row}
 use Rattle.rows.proofs.lookup.range_at.Statement.{statement}
 use Rattle.rows.proofs.lookup.range_at.Tie as tie
 
-mul-t4 : tie.Need-mul-t4
-mul-t4 c = search needs
+array-read-to-u16 : tie.Need-array-read-to-u16
+array-read-to-u16 c = search needs
 
-array-read-t7 : tie.Need-array-read-t7
-array-read-t7 c = search needs
+to-u16-requires : tie.Need-to-u16-requires
+to-u16-requires c κs = search needs
 
-mul-t9 : tie.Need-mul-t9
-mul-t9 c = search needs
+array-read-to-u16-2 : tie.Need-array-read-to-u16-2
+array-read-to-u16-2 c = search needs
 
-array-read-t12 : tie.Need-array-read-t12
-array-read-t12 c = search needs
+to-u16-requires-2 : tie.Need-to-u16-requires-2
+to-u16-requires-2 c κs = search needs
 
 mul-t14 : tie.Need-mul-t14
 mul-t14 c = search needs
@@ -25,18 +25,32 @@ mul-t14 c = search needs
 array-read-t17 : tie.Need-array-read-t17
 array-read-t17 c = search needs
 
-mul-t19 : tie.Need-mul-t19
-mul-t19 c = search needs
+array-read-to-u16-3 : tie.Need-array-read-to-u16-3
+array-read-to-u16-3 c = search needs
 
-array-read-t22 : tie.Need-array-read-t22
-array-read-t22 c = search needs
+to-u16-requires-3 : tie.Need-to-u16-requires-3
+to-u16-requires-3 c κs = search needs
 
 returns : tie.Need-returns
 unfolding rows
-returns c = range-columns (c .before .args .index) (c .if1 .taken)
+returns c =
+    let start = c .before .before .before in
+    rw (c .to-u163 .ensures, c .before .to-u162 .ensures, c .before .before .to-u16 .ensures) (range-columns (start .before .args .index) (start .if1 .taken))
 
 returns-2 : tie.Need-returns-2
 returns-2 c = ap (λ (r : Row). rangeOf (r .set)) (no-row (c .before .args .index) (c .if1 .left))
 
 pub range-at-spec : {M : Type 1} → statement M
-range-at-spec = tie.close (tie.spec mul-t4 array-read-t7 mul-t9 array-read-t12 mul-t14 array-read-t17 mul-t19 array-read-t22 returns returns-2)
+range-at-spec =
+    tie.close
+    (tie.spec
+    array-read-to-u16
+    to-u16-requires
+    array-read-to-u16-2
+    to-u16-requires-2
+    mul-t14
+    array-read-t17
+    array-read-to-u16-3
+    to-u16-requires-3
+    returns
+    returns-2)
