@@ -34,19 +34,23 @@ slotIf micra unit id r = cond (ofProduct micra r) (toSlot (r .set) (startValue u
 abbrev next : ℕ → ℕ → Bool → Row → ℕ
 next own other micra r = cond micra (own + cond (ofMicra r) (widthOf (r .set)) 0) (other + cond (ofMicra r) 0 (widthOf (r .set)))
 
+with-slot :
+    (unit : ℕ) (id front : List ℕ) (r : Row) (base : ℕ) (b : Bool) → length front ≡ base
+    → length (front ++ cond b (toSlot (r .set) (startValue unit id r)) []) ≡ base + cond b (widthOf (r .set)) 0
+with-slot unit id front r base true e =
+    omega (arith, length-append front (toSlot (r .set) (startValue unit id r)), slot-width (r .set) (startValue unit id r))
+with-slot unit id front r base false e = omega (arith, length-append {A = ℕ} front [])
+
+turned : (b : Bool) (n : ℕ) → cond (not b) n 0 ≡ cond b 0 n
+turned true n = refl
+turned false n = refl
+
 slot-end :
     (micra : Bool) (unit : ℕ) (id front : List ℕ) (own other : ℕ) (r : Row) → length front ≡ cond micra own other
     → length (front ++ slotIf micra unit id r) ≡ next own other micra r
-slot-end true unit id front own other r e = by (ofMicra r)
-  where
-    by : (b : Bool) → length (front ++ cond b (toSlot (r .set) (startValue unit id r)) []) ≡ own + cond b (widthOf (r .set)) 0
-    by true = omega (arith, e, length-append front (toSlot (r .set) (startValue unit id r)), slot-width (r .set) (startValue unit id r))
-    by false = omega (arith, e, length-append {A = ℕ} front [])
-slot-end false unit id front own other r e = by (ofMicra r)
-  where
-    by : (b : Bool) → length (front ++ cond (not b) (toSlot (r .set) (startValue unit id r)) []) ≡ other + cond b 0 (widthOf (r .set))
-    by false = omega (arith, e, length-append front (toSlot (r .set) (startValue unit id r)), slot-width (r .set) (startValue unit id r))
-    by true = omega (arith, e, length-append {A = ℕ} front [])
+slot-end true unit id front own other r e = with-slot unit id front r own (ofMicra r) e
+slot-end false unit id front own other r e =
+    with-slot unit id front r other (not (ofMicra r)) e ∙ ap (λ (n : ℕ). other + n) (turned (ofMicra r) (widthOf (r .set)))
 
 of-own : (micra : Bool) (r : Row) → ofMicra r ≡ micra → ofProduct micra r ≡ true
 of-own true r e = e
