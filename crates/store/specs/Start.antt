@@ -30,6 +30,7 @@ startBytes micra unit id = startSlots micra unit id (replicate (storeSize - prod
 unfoldable pub start : List ℕ → ℕ → Store
 start id unit = storeOf unit (startBytes (isMicra unit) unit id)
 
--- a store with the ID and its unit type in the rows of the identity, where the unit type `own` has them
+-- a store with an ID in 007C and its unit type in 00B9. The two rows lie where unit type `own` has them: on a VENTO Expert at the same
+-- places on every type
 abbrev pub withIdentity : Store → ℕ → List ℕ → Store
 withIdentity store own id = withValueAt (withValueAt store (indexOf own 0x00B9) (store .unit ∷ 0 ∷ [])) (indexOf own 0x007C) id

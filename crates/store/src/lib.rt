@@ -223,7 +223,7 @@ pub fn answered_with(unit: u8, function: u8, number: u16) -> Answer
     }
 }
 
-// A store with the ID and its unit type in the rows of the identity, where the unit type `own` has them.
+// A store with an ID in 007C and its unit type in 00B9. The two rows lie where unit type `own` has them.
 fn with_identity(store: Store, own: u8, id: [u8; ID_SIZE]) -> Store
     ensures { λ r. ⌜ r ≡ withIdentity store own id ⌝ }
 {
