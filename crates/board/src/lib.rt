@@ -1,5 +1,7 @@
 // The board: the code of set-up, packets and measurements. `model` defines what each of them does; `commands` runs the
 // commands of a block.
+#![tactic(auto)]
+
 mod checks;
 mod packets;
 mod records;

@@ -1,4 +1,6 @@
 // Which dates exist and which weekday each has: the Gregorian calendar from 2000 to 2099, where every fourth year is a leap year.
+#![tactic(auto)]
+
 ghost use Rattle.std.specs.Prelude.{◌+◌, ◌≤◌, ◌<◌, ◌≡◌};
 ghost use Rattle.calendar.specs.Dates.{days_in, days_of_months, days_of_years, weekday_of, is_date};
 

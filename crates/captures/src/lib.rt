@@ -1,4 +1,6 @@
 // The capture form `VLG`: packets as they were sent, with the boards that they belong to.
+#![tactic(auto)]
+
 pub mod reading;
 pub mod writing;
 

@@ -1,4 +1,6 @@
 // Runs the commands of a data block on a board's parameters.
+#![tactic(auto)]
+
 pub mod draft;
 
 ghost use Rattle.std.specs.Prelude.{◌≡◌};

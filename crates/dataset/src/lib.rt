@@ -1,4 +1,6 @@
 // The calls on captures and tables for programs in other languages: answers are numbers.
+#![tactic(auto)]
+
 pub mod capture;
 pub mod table;
 

@@ -1,5 +1,7 @@
 // Exports one capture: a capture of any size on standard input, its table on standard output, and behind it how many responses are
 // refused and the refusal of the capture, if there is one.
+#![tactic(auto)]
+
 mod stream;
 
 use libc::STDOUT_FILENO;

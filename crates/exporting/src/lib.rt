@@ -1,4 +1,6 @@
 // Writes the table of a capture, as `tables` defines it: whole into a lent buffer, or the rows of one window after another.
+#![tactic(auto)]
+
 ghost use Rattle.std.specs.Prelude.{◌≡◌, ◌+◌, ◌≤◌, length};
 ghost use Rattle.octets.specs.Octets.{overwrite};
 ghost use Rattle.captures.specs.Reading.{read, records_of};

@@ -1,4 +1,6 @@
 // The calls for firmware and programs in other languages: answers are numbers, and a packet changes the record that it is lent.
+#![tactic(auto)]
+
 pub mod client;
 pub mod controller;
 pub mod packet;

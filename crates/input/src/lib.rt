@@ -1,4 +1,6 @@
 // Reads standard input into a window.
+#![tactic(auto)]
+
 ghost use Rattle.input.specs.Filling.{Fills};
 
 use libc::STDIN_FILENO;

@@ -1,4 +1,6 @@
 // Lists one response: a packet on standard input, its listing on standard output.
+#![tactic(auto)]
+
 use libc::{STDIN_FILENO, STDOUT_FILENO};
 use tool::listing::Listed;
 

@@ -1,5 +1,7 @@
 // A board's record, and what set-up, a packet and a measurement are answered with. What each of them does is defined in `specs/`, with
 // demands 1, 2 and 3 proved of the definitions; `board` has the code.
+#![tactic(auto)]
+
 use schedule::Schedule;
 use store::Store;
 

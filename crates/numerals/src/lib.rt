@@ -1,4 +1,6 @@
 // Numbers and bytes as text.
+#![tactic(auto)]
+
 ghost use Rattle.std.specs.Prelude.{◌∷◌, [], ◌≡◌, ◌≤◌, ◌<◌, length};
 ghost use Rattle.octets.specs.Octets.{Overwrites};
 ghost use Rattle.numerals.specs.Numerals.{hex_digit, hex_bytes, digit, decimal, Before, Holds};

@@ -1,4 +1,6 @@
 // Writes a capture of version 2, or its head and its records one at a time, into a lent buffer, as `captures` defines their bytes.
+#![tactic(auto)]
+
 ghost use Rattle.std.specs.Prelude.{not, ◌++◌, ◌≡◌, ◌+◌, ◌*◌, ◌≤◌, ltb, length};
 ghost use Rattle.octets.specs.Octets.{overwrite, Overwrites};
 ghost use Rattle.framing.specs.Refusal.{checked};

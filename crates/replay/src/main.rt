@@ -1,4 +1,6 @@
 // Replays a list of calls from standard input on one board, and writes a line for each to standard output.
+#![tactic(auto)]
+
 mod board_calls;
 mod calls;
 mod capture_calls;

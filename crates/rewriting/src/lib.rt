@@ -1,4 +1,6 @@
 // Rewrites a capture of either version in version 2, into a lent buffer.
+#![tactic(auto)]
+
 ghost use Rattle.std.specs.Prelude.{false, ◌≡◌, ◌+◌, ◌≤◌, length};
 ghost use Rattle.octets.specs.Octets.{overwrite};
 ghost use Rattle.captures.specs.Form.{newest};

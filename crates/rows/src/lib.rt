@@ -1,4 +1,6 @@
 // The rows of both products: a flat table as constant columns, looking a number up in it, and the sets of its rows.
+#![tactic(auto)]
+
 mod columns;
 pub mod lookup;
 pub mod sets;

@@ -1,4 +1,6 @@
 // The weekly schedule, parameter 0x0077: an entry for each day and period, and what reading and writing make of them.
+#![tactic(auto)]
+
 ghost use Rattle.std.specs.Prelude.{◌-◌, ◌<◌, true, ◌≡◌};
 ghost use Rattle.schedule.specs.Days.{is_day, is_period, has_entry};
 ghost use Rattle.schedule.specs.Entries.{is_temperature, legal, lowest as lowest_entry, entry_count, place_of, entry_at, with_entry, with_days};

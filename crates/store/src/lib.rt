@@ -1,4 +1,6 @@
 // The parameter store: what each row holds, and what reading, writing and measuring make of it.
+#![tactic(auto)]
+
 ghost use Rattle.std.specs.Prelude.{cond, not, ◌||◌, [], ◌∷◌, ◌≡◌};
 ghost use Rattle.std.proofs.Math.Option.{none};
 ghost use Rattle.rows.specs.Layout.{set_at};

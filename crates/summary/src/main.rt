@@ -1,4 +1,6 @@
 // Sums up one capture: a capture of any size on standard input, its summary on standard output.
+#![tactic(auto)]
+
 mod stream;
 
 use libc::STDOUT_FILENO;

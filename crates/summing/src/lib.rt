@@ -1,4 +1,6 @@
 // Writes the counts of `counts` as text, and the summary of a capture: a line for each board and number that occurs.
+#![tactic(auto)]
+
 ghost use Rattle.std.specs.Prelude.{◌∷◌, [], ◌++◌, ◌≡◌, ◌≤◌, length};
 ghost use Rattle.numerals.specs.Numerals.{decimal, Before};
 ghost use Rattle.tool.specs.Listing.{line_of, Shows};

@@ -1,4 +1,6 @@
 // Tables: what they are, their header, and the lines that the export program writes behind one. `exporting` writes rows, `importing` reads them.
+#![tactic(auto)]
+
 ghost use Rattle.std.specs.Prelude.{◌≡◌, ◌+◌, ◌≤◌, length};
 ghost use Rattle.octets.specs.Octets.{overwrite};
 ghost use Rattle.tables.specs.Rows.{header_line};
