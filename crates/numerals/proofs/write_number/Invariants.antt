@@ -1,4 +1,3 @@
-use Prim.Native.Nat.{◌-◌}
 use Rattle.numerals.proofs.Decimals.{Digits}
 use Rattle.numerals.proofs.write_number.Given as goal
 
