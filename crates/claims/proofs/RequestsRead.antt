@@ -53,9 +53,9 @@ writer_takes given h =
     let forty_three = not_refused _ _ given forty_two.1 in
     let password : is_password given.password ≡ true = not-false _ twenty_one.0 in
     let id_size : eqb (length given.id) 16 ≡ true = not-false _ forty.0 in
-    let password_size_lem : leb (length given.password) 8 ≡ true = (both_true _ (all_alphanumeric given.password) password).0 in
+    let password_fits : leb (length given.password) 8 ≡ true = (both_true _ (all_alphanumeric given.password) password).0 in
     let size : leb (packet_length (request_of given)) 256 ≡ true = le-leb _ 256 (ltb-false 256 (packet_length (request_of given)) forty_three.0) in
-    record { password = password; encodable = not-false _ forty_two.0; framed = λ i. id_size i && password_size_lem i && size i }
+    record { password = password; encodable = not-false _ forty_two.0; framed = λ i. id_size i && password_fits i && size i }
 
 -- an answered length is the packet's, which stands in the first bytes of the buffer
 pub record PacketSent (given : WriteCall) (packet : List ℕ) : Type 0 where

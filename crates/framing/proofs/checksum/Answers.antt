@@ -1,4 +1,4 @@
-use Rattle.std.proofs.Common.{◌-◌, refl, ◌∙◌, arith, take_all}
+use Rattle.std.proofs.Common.{refl, ◌∙◌, arith, take_all}
 use native.Mathlib.Nat.{mod-add-mod}
 use Rattle.octets.specs.Octets.{sum as total}
 use Rattle.framing.specs.Checksum.{checksum}
@@ -13,7 +13,7 @@ pub loop-i-preserved : goal.loop-i-preserved
 loop-i-preserved c =
     let state = c.loop-i in
     let bytes = c.args.bytes.now in
-    (omega arith, c.wrapping_add_u16-sum.ensures ∙ rw (state.invariant.1, mod-add-mod, sum_take bytes state.i (omega arith)))
+    (omega arith, c.wrapping_add_u16-sum.ensures.value ∙ rw (state.invariant.1, mod-add-mod, sum_take bytes state.i (omega arith)))
 
 pub returns : goal.returns
 unfolding checksum

@@ -1,5 +1,4 @@
-use Rattle.std.proofs.Common.{◌-◌, ◌≤◌, length, sym, ◌∙◌, arith, drop_of_length-le}
-use borrow.Author.Tests.{not-true, not-false}
+use Rattle.std.proofs.Common.{◌≤◌, length, sym, ◌∙◌, arith, drop_of_length-le}
 use Rattle.framing.specs.Identity.{all_alphanumeric}
 use Rattle.framing.proofs.Passwords.{alphanumeric_step}
 use Rattle.framing.proofs.is_password.Goals as goal
@@ -9,14 +8,14 @@ returns-then-not-is_alphanumeric c =
     sym
     (c.loop-i.invariant.1
     ∙ alphanumeric_step _ c.loop-i.i (omega arith)
-    ∙ simp (sym c.is_alphanumeric.ensures ∙ not-true _ c.if-not-is_alphanumeric.true))
+    ∙ simp (sym c.is_alphanumeric.ensures ∙ c.if-not-is_alphanumeric.true))
 
 pub loop-i-preserved : goal.loop-i-preserved
 loop-i-preserved c = (
   omega arith,
   c.loop-i.invariant.1
       ∙ alphanumeric_step _ c.loop-i.i (omega arith)
-      ∙ simp (sym c.is_alphanumeric.ensures ∙ not-false _ c.if-not-is_alphanumeric.false),
+      ∙ simp (sym c.is_alphanumeric.ensures ∙ c.if-not-is_alphanumeric.false),
 )
 
 pub returns : goal.returns

@@ -163,7 +163,7 @@ returns_4 c =
     let room = buffer_right k.before.before.before in
     steps
     (ap (λ (refusal : Option ℕ). outcome_by refusal (request call) call.buffer) (step_refusal_by call legal room right refl)
-    ∙ sym (answered_outcome (request call) call.buffer (not-false _ legal) (frame_sizes call.packet right).password_size_lem (ltb-false _ _ room))
+    ∙ sym (answered_outcome (request call) call.buffer (not-false _ legal) (frame_sizes call.packet right).password_fits (ltb-false _ _ room))
     ∙ ap (λ (r : Request). answered r call.buffer) (sym (same_request call.board (stood k))))
     c.before.before.answer.ensures
 
