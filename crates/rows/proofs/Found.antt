@@ -87,7 +87,7 @@ places_order own other (r ∷ rs) zero (suc k) q h e =
     choose false false same x = omega arith
     choose true false same x = absurd (false≢true same)
     choose false true same x = absurd (false≢true (sym same))
-places_order own other (r ∷ rs) (suc j) (suc k) q h e = places_order _ _ rs j k (le_of_suc-le-suc q) (le_of_suc-le-suc h) e
+places_order own other (r ∷ rs) (suc j) (suc k) q h e = places_order (own + cond (of_micra r) (width_of r.set) 0) (other + cond (of_micra r) 0 (width_of r.set)) rs j k (le_of_suc-le-suc q) (le_of_suc-le-suc h) e
 
 pub place_order : (j k : ℕ) → j < k → k < row_count → of_micra (row_at j) ≡ of_micra (row_at k) → place_at j + width_of (set_at j) ≤ place_at k
 place_order j k q h e = places_order 0 0 rows j k q (rw rows_length h) e

@@ -30,7 +30,7 @@ pub const CLOCK: u8 = 4;
 pub const CALENDAR: u8 = 5;
 
 // The numbers low, low + step, .. up to high, and one more, which is low itself where there is none.
-#[derive(Drop)]
+#[derive(Clone, Copy)]
 pub struct Range {
     pub extra: u16,
     pub low: u16,
