@@ -145,7 +145,7 @@ module _ (version : Version) (ids : List ℕ) (records : List Record) (right : w
   count_back : board_count version written ≡ boards_of ids
   count_back =
       ap (board_count version) by_count
-      ∙ field_at (mark ++ bytes_of 2 (version_number version)) (bytes_of (index_size version) (boards_of ids)) _ {at = count_at} (simp (length-append, length_bytes)) (length_bytes (index_size version) (boards_of ids))
+      ∙ field_at (mark ++ bytes_of 2 (version_number version)) (bytes_of (index_size version) (boards_of ids)) _ {at = count_at} (simp length_bytes) (length_bytes (index_size version) (boards_of ids))
       ∙ number_back (index_size version) (boards_of ids) (omega (arith, few, (sizes version).counted))
 
   head_ends : length (head_bytes version ids) ≡ records_at version written
@@ -199,10 +199,10 @@ counters_fit_lem :
     (indexes directions counters lengths packets : List ℕ) → ((place : ℕ) → get_or counters place 0 < 256 ^ 4) → counters_fit (record_list indexes directions counters lengths packets)
 unfolding record_list counters_fit
 counters_fit_lem [] directions counters lengths packets small = tt
-counters_fit_lem (index ∷ indexes) [] counters lengths packets small = tt
-counters_fit_lem (index ∷ indexes) (direction ∷ directions) [] lengths packets small = tt
-counters_fit_lem (index ∷ indexes) (direction ∷ directions) (counter ∷ counters) [] packets small = tt
-counters_fit_lem (index ∷ indexes) (direction ∷ directions) (counter ∷ counters) (size ∷ lengths) packets small =
+counters_fit_lem (_ ∷ indexes) [] counters lengths packets small = tt
+counters_fit_lem (_ ∷ indexes) (_ ∷ directions) [] lengths packets small = tt
+counters_fit_lem (_ ∷ indexes) (_ ∷ directions) (_ ∷ counters) [] packets small = tt
+counters_fit_lem (_ ∷ indexes) (_ ∷ directions) (_ ∷ counters) (size ∷ lengths) packets small =
     (small 0, counters_fit_lem indexes directions counters lengths (drop size packets) (λ place. small (suc place)))
 
 pub calls_read_back : CallsReadBack

@@ -12,7 +12,7 @@ ghost use Rattle.captures.specs.Numbers.{bytes_of};
 use framing::Check;
 
 // A form of captures.
-#[derive(Drop)]
+#[derive(Clone, Copy)]
 pub enum Version {
     One,
     Two,
