@@ -4,33 +4,45 @@
 
 mod stream;
 
-use libc::STDOUT_FILENO;
+use std::io;
+use std::process::ExitCode;
 use stream::Streamed;
 
 // The window holds the longest head.
 const WINDOW: usize = 16384;
 
+// Says on standard error what failed.
+fn failed(rt: &HostRuntime, what: &str, error: io::Error) -> ExitCode {
+    let _ = rt.eprintln(format_args!("export: {what}: {error}"));
+    ExitCode::FAILURE
+}
+
 // Writes the lines behind the table.
-fn end_table(refused: u64, capture: u8) {
+fn end_table(rt: &HostRuntime, refused: u64, capture: u8) -> ExitCode {
     let lines = tables::last_lines(refused, capture);
     let bytes = lines.bytes;
-    if !io::write_all(STDOUT_FILENO, octets::first_bytes(&bytes, lines.size)) {
-        os::fail(b"export: standard output");
+    match rt
+        .stdout()
+        .write_all(octets::first_bytes(&bytes, lines.size))
+    {
+        Ok(()) => ExitCode::SUCCESS,
+        Err(error) => failed(rt, "standard output", error),
     }
 }
 
 // Exports the capture on standard input. Text, window and room for the IDs are lent.
-fn export(text: &mut [u8], window: &mut [u8], ids: &mut [u8]) {
-    match stream::write_table(text, window, ids) {
-        Streamed::Until { refused, capture } => end_table(refused, capture),
-        Streamed::ReadFailed => os::fail(b"export: standard input"),
-        Streamed::WriteFailed => os::fail(b"export: standard output"),
+fn export(rt: &HostRuntime, text: &mut [u8], window: &mut [u8], ids: &mut [u8]) -> ExitCode {
+    let mut stdin = rt.stdin();
+    match stream::write_table(&mut stdin, rt.stdout(), text, window, ids) {
+        Streamed::Until { refused, capture } => end_table(rt, refused, capture),
+        Streamed::ReadFailed(error) => failed(rt, "standard input", error),
+        Streamed::WriteFailed(error) => failed(rt, "standard output", error),
     }
 }
 
-fn main() {
+fn main(rt: HostRuntime) -> ExitCode {
     let mut text = [0u8; 40 * WINDOW];
     let mut window = [0u8; WINDOW];
     let mut ids = [0u8; framing::ID_SIZE * captures::BOARD_LIMIT];
-    export(&mut text, &mut window, &mut ids);
+    export(&rt, &mut text, &mut window, &mut ids)
 }

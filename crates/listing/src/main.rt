@@ -1,17 +1,27 @@
 // Lists one response: a packet on standard input, its listing on standard output.
 #![tactic(auto)]
 
-use libc::{STDIN_FILENO, STDOUT_FILENO};
+use input::Filled;
+use std::io;
+use std::io::Stdout;
 use tool::listing::Listed;
 
-fn main() {
-    // One byte more than the longest packet, so that a longer input is refused by its length.
-    let mut input = [0u8; framing::LONGEST_PACKET + 1];
-    let count = io::read_full(STDIN_FILENO, &mut input);
+// Writes the listing of a packet.
+fn list(to: Stdout, packet: &[u8]) -> io::Result<()> {
     // The longest listing.
     let mut text = [0u8; 1753];
-    let Listed::Length(length) = tool::listing::list(&mut text, &input[..count]) else {
-        return;
+    let Listed::Length(length) = tool::listing::list(&mut text, packet) else {
+        return Ok(());
     };
-    io::write_all(STDOUT_FILENO, &text[..length]);
+    to.write_all(octets::first_bytes(&text, length))
+}
+
+fn main(rt: HostRuntime) -> io::Result<()> {
+    // One byte more than the longest packet, so that a longer input is refused by its length.
+    let mut packet = [0u8; framing::LONGEST_PACKET + 1];
+    let mut stdin = rt.stdin();
+    match input::fill_until(&mut stdin, &mut packet, framing::LONGEST_PACKET + 1) {
+        Filled::Until(count) => list(rt.stdout(), octets::first_bytes(&packet, count)),
+        Filled::ReadFailed(error) => Err(error),
+    }
 }

@@ -3,27 +3,36 @@
 
 mod stream;
 
-use libc::STDOUT_FILENO;
+use std::io;
+use std::process::ExitCode;
 use stream::Counted;
 use tool::listing::Listed;
 
+// Says on standard error what failed.
+fn failed(rt: &HostRuntime, what: &str, error: io::Error) -> ExitCode {
+    let _ = rt.eprintln(format_args!("summary: {what}: {error}"));
+    ExitCode::FAILURE
+}
+
 // Sums up the capture on standard input. Counts, window and text are lent.
-fn sum_up(pairs: &mut [u64], window: &mut [u8], text: &mut [u8]) {
-    let Counted::Until(refusal) = stream::count(pairs, window) else {
-        os::fail(b"summary: standard input");
-        return;
+fn sum_up(rt: &HostRuntime, pairs: &mut [u64], window: &mut [u8], text: &mut [u8]) -> ExitCode {
+    let mut stdin = rt.stdin();
+    let refusal = match stream::count(&mut stdin, pairs, window) {
+        Counted::Until(refusal) => refusal,
+        Counted::ReadFailed(error) => return failed(rt, "standard input", error),
     };
     let Listed::Length(length) = summing::write(text, pairs, refusal) else {
-        return;
+        return ExitCode::SUCCESS;
     };
-    if !io::write_all(STDOUT_FILENO, octets::first_bytes(text, length)) {
-        os::fail(b"summary: standard output");
+    match rt.stdout().write_all(octets::first_bytes(text, length)) {
+        Ok(()) => ExitCode::SUCCESS,
+        Err(error) => failed(rt, "standard output", error),
     }
 }
 
-fn main() {
+fn main(rt: HostRuntime) -> ExitCode {
     let mut window = [0u8; 65536];
     let mut pairs = [0u64; captures::BOARD_LIMIT * counts::counting::NUMBERS];
     let mut text = [0u8; summing::LONGEST_TEXT];
-    sum_up(&mut pairs, &mut window, &mut text);
+    sum_up(&rt, &mut pairs, &mut window, &mut text)
 }

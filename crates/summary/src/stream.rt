@@ -3,6 +3,8 @@ use captures::Version;
 use captures::reading::Opened;
 use counts::counting::Ending;
 use input::Filled;
+use std::io;
+use std::io::Stdin;
 
 // How the capture ends.
 #[derive(Drop)]
@@ -10,12 +12,13 @@ pub(crate) enum Counted {
     // With this refusal, 0 for none.
     Until(u8),
     // Standard input could not be read to its end.
-    ReadFailed,
+    ReadFailed(io::Error),
 }
 
 // Counts the records that stand in the window from `records` to `filled`, and then those that are read behind the bytes that are left.
 // Nothing says that the input ends, so the turns are counted.
 fn count_records(
+    stdin: &mut Stdin,
     pairs: &mut [u64],
     window: &mut [u8],
     records: usize,
@@ -31,8 +34,9 @@ fn count_records(
         let Ending::Left(left) = ending else {
             return Counted::Until(counts::counting::ending_number(ending));
         };
-        let Filled::Until(until) = input::fill(window, left) else {
-            return Counted::ReadFailed;
+        let until = match input::fill(stdin, window, left) {
+            Filled::Until(until) => until,
+            Filled::ReadFailed(error) => return Counted::ReadFailed(error),
         };
         if until <= left {
             return Counted::Until(counts::counting::ending_number(ending));
@@ -41,13 +45,14 @@ fn count_records(
         end = until;
         turns -= 1;
     }
-    Counted::ReadFailed
+    Counted::ReadFailed(io::Error::from(io::ErrorKind::Other))
 }
 
 // Counts the records of the capture on standard input.
-pub(crate) fn count(pairs: &mut [u64], window: &mut [u8]) -> Counted {
-    let Filled::Until(filled) = input::fill_until(window, captures::LONGEST_HEAD) else {
-        return Counted::ReadFailed;
+pub(crate) fn count(stdin: &mut Stdin, pairs: &mut [u64], window: &mut [u8]) -> Counted {
+    let filled = match input::fill_until(stdin, window, captures::LONGEST_HEAD) {
+        Filled::Until(filled) => filled,
+        Filled::ReadFailed(error) => return Counted::ReadFailed(error),
     };
     match captures::reading::open(octets::first_bytes(window, filled)) {
         Opened::Refused(number) => Counted::Until(number),
@@ -56,6 +61,6 @@ pub(crate) fn count(pairs: &mut [u64], window: &mut [u8]) -> Counted {
             boards,
             ids: _,
             records,
-        } => count_records(pairs, window, records, filled, version, boards),
+        } => count_records(stdin, pairs, window, records, filled, version, boards),
     }
 }
