@@ -11,7 +11,7 @@ use framing::{Check, Parsed, Written};
 use model::{Answer, Board, Stepped};
 
 // What the checks make of a request: the number of its refusal, or which parameters it may have reported.
-#[derive(Drop)]
+#[derive(Clone, Copy)]
 enum Judged {
     Refused(u8),
     Passed(Scope),

@@ -9,7 +9,7 @@ use super::Version;
 use framing::Check;
 
 // The head of a capture.
-#[derive(Drop)]
+#[derive(Clone, Copy)]
 pub enum Opened {
     // So many boards: their IDs of 16 bytes each stand from `ids` on, the records from `records` on.
     Capture {
@@ -23,7 +23,7 @@ pub enum Opened {
 }
 
 // What stands first in what is left of a capture's records.
-#[derive(Drop)]
+#[derive(Clone, Copy)]
 pub enum NextRecord {
     // A record. `packet` bytes are left where its packet starts, and `rest` after it.
     Record {

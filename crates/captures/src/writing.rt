@@ -1,6 +1,6 @@
 // What the writers of `recording` answer.
 
-#[derive(Drop)]
+#[derive(Clone, Copy)]
 pub enum Written {
     // The length of what was written.
     Length(usize),

@@ -6,14 +6,14 @@ ghost use Rattle.commands.specs.Draft.{cursor_after, draft_at, drafted};
 use encoding::Written;
 
 // Whether all reports had room.
-#[derive(Drop)]
+#[derive(Clone, Copy)]
 pub enum Room {
     Left,
     Over,
 }
 
 // The first `length` of `bytes` are written, with `page` in force after them.
-#[derive(Drop)]
+#[derive(Clone, Copy)]
 pub struct Draft {
     pub bytes: [u8; framing::LONGEST_BLOCK],
     pub length: usize,
@@ -22,7 +22,7 @@ pub struct Draft {
 }
 
 // How far a draft is written, apart from its bytes.
-#[derive(Drop)]
+#[derive(Clone, Copy)]
 pub(crate) struct Cursor {
     pub length: usize,
     pub page: u8,

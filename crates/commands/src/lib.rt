@@ -17,13 +17,13 @@ use schedule::Schedule;
 use store::Store;
 
 // Which parameters are reported: in a discovery only the ID and the unit type.
-#[derive(Drop)]
+#[derive(Clone, Copy)]
 pub enum Scope {
     All,
     Identity,
 }
 
-#[derive(Drop)]
+#[derive(Clone, Copy)]
 pub struct RunResult {
     pub parameters: Parameters,
     pub draft: Draft,

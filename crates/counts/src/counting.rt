@@ -9,7 +9,7 @@ use captures::reading::NextRecord;
 pub const NUMBERS: usize = 11;
 
 // How the records of some bytes end.
-#[derive(Drop)]
+#[derive(Clone, Copy)]
 pub enum Ending {
     // With so many bytes left, the start of a record: refusal 53, where there are any and no more come.
     Left(usize),

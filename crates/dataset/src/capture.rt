@@ -17,7 +17,7 @@ use tool::listing::Listed;
 
 // Refusal 0: the IDs, 16 bytes each, stand from `ids` on, the records from `records` on. With any other every number is 0.
 #[repr(C)]
-#[derive(Drop)]
+#[derive(Clone, Copy)]
 pub struct OpenedCapture {
     pub refusal: u16,
     pub version: u16,
@@ -55,7 +55,7 @@ pub extern "C" fn udgornwy_open_capture(capture: &[u8]) -> OpenedCapture
 }
 
 // What a version's number names.
-#[derive(Drop)]
+#[derive(Clone, Copy)]
 pub(crate) enum NumberedVersion {
     Known(Version),
     Unknown,
@@ -76,7 +76,7 @@ pub(crate) fn version_numbered(number: u16) -> NumberedVersion
 // Kind 0: a record; 1: no record is left; 2: the start of a record; 3: a field outside its range; 4: no version has this number. With any
 // other than 0 all numbers behind it are 0.
 #[repr(C)]
-#[derive(Drop)]
+#[derive(Clone, Copy)]
 pub struct CaptureRecord {
     pub kind: u8,
     pub direction: u8,

@@ -6,7 +6,7 @@ pub mod table;
 
 // As the board's calls answer. Refusal 0: not refused. The length is that of the bytes or of the text.
 #[repr(C)]
-#[derive(Drop)]
+#[derive(Clone, Copy)]
 pub struct Reply {
     pub refusal: u16,
     pub length: usize,

@@ -36,7 +36,7 @@ pub extern "C" fn udgornwy_table_header(buffer: &mut [u8]) -> Reply
 // Refusal 0: the table's length, how many responses are refused, and the number of the capture's refusal, 0 for none. Refusal 54: the
 // table does not fit, and every other number is 0.
 #[repr(C)]
-#[derive(Drop)]
+#[derive(Clone, Copy)]
 pub struct ExportedTable {
     pub refusal: u16,
     pub capture: u16,
@@ -72,7 +72,7 @@ pub extern "C" fn udgornwy_export_table(buffer: &mut [u8], capture: &[u8]) -> Ex
 // Refusal 0: the length of the rows, how many responses are refused so far, and how the records end: `ending` 53 at a field outside its
 // range, else `left` bytes are left. With any other refusal every number is 0.
 #[repr(C)]
-#[derive(Drop)]
+#[derive(Clone, Copy)]
 pub struct ExportedRows {
     pub refusal: u16,
     pub ending: u16,
@@ -135,7 +135,7 @@ pub extern "C" fn udgornwy_export_window(
 // Refusal 0: so many bytes are left after the header, and the next line has this number. With any other the line is the one at fault,
 // and no byte is left.
 #[repr(C)]
-#[derive(Drop)]
+#[derive(Clone, Copy)]
 pub struct OpenedTable {
     pub refusal: u16,
     pub line: u64,
@@ -163,7 +163,7 @@ pub extern "C" fn udgornwy_open_table(text: &[u8]) -> OpenedTable
 
 // Kind 0: a row; 1: no line is left; 2: refused, and the line is the one at fault. With any other than 0 all other numbers are 0.
 #[repr(C)]
-#[derive(Drop)]
+#[derive(Clone, Copy)]
 pub struct TableRow {
     pub kind: u8,
     pub page: u8,

@@ -17,7 +17,7 @@ mod rows;
 pub mod window;
 
 // What became of a capture.
-#[derive(Drop)]
+#[derive(Clone, Copy)]
 pub enum Exported {
     // The table's length, how many responses are refused, and the number of the capture's refusal, 0 for none.
     Table {
@@ -75,7 +75,7 @@ fn refused_after(count: u64, refused: bool) -> u64
 }
 
 // Records that were put: where their rows end, how many responses are refused, those before them too, and how they end.
-#[derive(Drop)]
+#[derive(Clone, Copy)]
 pub(crate) struct Records {
     pub(crate) end: usize,
     pub(crate) refused: u64,

@@ -16,14 +16,14 @@ use tool::response::Response;
 const LONGEST_START: usize = 2 + 2 * framing::ID_SIZE + 7 + numerals::DIGITS + 5;
 
 // What is left of some room.
-#[derive(Drop)]
+#[derive(Clone, Copy)]
 pub(crate) enum Room {
     Left(usize),
     NoRoom,
 }
 
 // Rows that were put.
-#[derive(Drop)]
+#[derive(Clone, Copy)]
 pub(crate) struct Put {
     pub(crate) end: usize,
     // Whether the record is a response that is refused.
@@ -31,7 +31,7 @@ pub(crate) struct Put {
 }
 
 // What stands first in what is left of a well-formed block.
-#[derive(Drop)]
+#[derive(Clone, Copy)]
 enum NextRow {
     // A report. `value` bytes of the block are left where its value starts, and `rest` after it; this page is then in force.
     Row {

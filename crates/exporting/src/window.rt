@@ -8,7 +8,7 @@ use counts::counting::Ending;
 pub const TEXT_PER_BYTE: usize = 40;
 
 // What became of the records of a window.
-#[derive(Drop)]
+#[derive(Clone, Copy)]
 pub enum Rows {
     // The length of their text, how many responses are refused so far, and how the records end.
     Rows {

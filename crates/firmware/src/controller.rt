@@ -8,7 +8,7 @@ ghost use Rattle.firmware.specs.Controller.{Replies, reply_of, refusal_number, r
 use super::Reply;
 use model::{Answer, Answered, Board, Verdict};
 
-#[derive(Drop)]
+#[derive(Clone, Copy)]
 struct Replied {
     pub board: Board,
     pub reply: Reply,
@@ -55,7 +55,7 @@ pub extern "C" fn udgornwy_packet(board: &mut Board, packet: &[u8], response: &m
 
 // The board to keep, and the number of the refusal, 0 where there is none.
 #[repr(C)]
-#[derive(Drop)]
+#[derive(Clone, Copy)]
 pub struct CallResult {
     pub board: Board,
     pub refusal: u16,

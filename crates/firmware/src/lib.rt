@@ -7,7 +7,7 @@ pub mod packet;
 
 // Refusal 0: not refused. The length is that of the response, the packet or the text; a packet's length 0 with refusal 0 is silence.
 #[repr(C)]
-#[derive(Drop)]
+#[derive(Clone, Copy)]
 pub struct Reply {
     pub refusal: u16,
     pub length: usize,

@@ -7,7 +7,7 @@ use framing::{Parsed, Places};
 
 // Refusal 0: the parts stand at these places. With any other every place is 0.
 #[repr(C)]
-#[derive(Drop)]
+#[derive(Clone, Copy)]
 pub struct Parts {
     pub refusal: u16,
     pub places: Places,

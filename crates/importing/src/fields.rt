@@ -4,7 +4,7 @@ ghost use Rattle.tables.specs.Fields.{fields_of};
 ghost use Rattle.importing.specs.Splitting.{field_size, field_end, first_field, after_field, counted};
 
 // What ends the first field of a line.
-#[derive(Drop)]
+#[derive(Clone, Copy)]
 pub(crate) enum FieldEnd {
     // A comma: another field follows.
     Comma,
@@ -14,7 +14,7 @@ pub(crate) enum FieldEnd {
     Wrong,
 }
 
-#[derive(Drop)]
+#[derive(Clone, Copy)]
 pub(crate) enum Fields {
     Count(usize),
     // The quoting fails.

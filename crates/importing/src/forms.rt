@@ -18,7 +18,7 @@ const NUMBER_SIZE: usize = 6;
 // x and two digits for each of 255 bytes.
 const LONGEST_VALUE: usize = 511;
 
-#[derive(Drop)]
+#[derive(Clone, Copy)]
 enum Counter {
     Number(u32),
     // Outside its form, or over 32 bits.
@@ -26,7 +26,7 @@ enum Counter {
 }
 
 // What stands in the fields of a row.
-#[derive(Drop)]
+#[derive(Clone, Copy)]
 pub(crate) enum RowFields {
     // Page and low byte of the parameter, and how many bytes the value's field has.
     InForm {

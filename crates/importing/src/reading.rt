@@ -17,7 +17,7 @@ const END_SIZE: usize = 2;
 const FIELDS: usize = 5;
 
 // The header of a table.
-#[derive(Drop)]
+#[derive(Clone, Copy)]
 pub enum Opened {
     // It stands. So many bytes are left after it, and the next line has this number.
     Table { rest: usize, line: u64 },
@@ -26,7 +26,7 @@ pub enum Opened {
 }
 
 // What stands first in what is left of a table.
-#[derive(Drop)]
+#[derive(Clone, Copy)]
 pub enum NextRow {
     // A row. So many bytes are left where the 32 digits of its board's ID start, and where the digits of its value start and end: none
     // for an unknown parameter. So many are left after the line, and the next has this number.

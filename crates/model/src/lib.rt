@@ -7,7 +7,7 @@ use store::Store;
 
 // What a board's parameters hold: the rows, and the entries of the weekly schedule.
 #[repr(C)]
-#[derive(Drop)]
+#[derive(Clone, Copy)]
 pub struct Parameters {
     pub store: Store,
     pub schedule: Schedule,
@@ -15,7 +15,7 @@ pub struct Parameters {
 
 // A board's record. The password is the first `size` bytes of `password`; `mode` is the mode in force.
 #[repr(C)]
-#[derive(Drop)]
+#[derive(Clone, Copy)]
 pub struct Board {
     pub id: [u8; framing::ID_SIZE],
     pub password: [u8; framing::LONGEST_PASSWORD],
@@ -25,21 +25,21 @@ pub struct Board {
 }
 
 // What set-up and a measurement are answered with.
-#[derive(Drop)]
+#[derive(Clone, Copy)]
 pub enum Verdict {
     Accepted,
     // The number of the refusal.
     Refused(u8),
 }
 
-#[derive(Drop)]
+#[derive(Clone, Copy)]
 pub struct Answered {
     pub board: Board,
     pub verdict: Verdict,
 }
 
 // What a packet is answered with.
-#[derive(Drop)]
+#[derive(Clone, Copy)]
 pub enum Answer {
     // The number of the refusal.
     Refused(u8),
@@ -48,7 +48,7 @@ pub enum Answer {
     Response(usize),
 }
 
-#[derive(Drop)]
+#[derive(Clone, Copy)]
 pub struct Stepped {
     pub board: Board,
     pub answer: Answer,

@@ -72,7 +72,7 @@ fn write_number(bytes: &mut [u8], end: usize, number: u64) -> usize
 }
 
 // Digits that end their buffer: they stand from `start` on.
-#[derive(Drop)]
+#[derive(Clone, Copy)]
 pub struct Numeral {
     pub bytes: [u8; DIGITS],
     pub start: usize,

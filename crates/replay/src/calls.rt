@@ -3,7 +3,7 @@ use crate::{board_calls, capture_calls, output, record_calls, slices, table_call
 use model::Board;
 
 // The board, and where the text of the answers ends.
-#[derive(Drop)]
+#[derive(Clone, Copy)]
 pub(crate) struct Step {
     pub board: Board,
     pub at: usize,

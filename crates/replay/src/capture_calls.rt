@@ -179,7 +179,7 @@ fn rewrite_capture(left: &[u8], text: &mut [u8], at: usize, buffer: &mut [u8]) -
 }
 
 // The calls to which a buffer is lent.
-#[derive(Drop)]
+#[derive(Clone, Copy)]
 enum Call {
     Write,
     Rewrite,

@@ -3,7 +3,7 @@ use crate::fields::{Decimal, Items, Number};
 use crate::hex::{Byte, Decoded};
 use crate::{fields, hex, slices};
 
-#[derive(Drop)]
+#[derive(Clone, Copy)]
 enum Record {
     // The packet has `length` bytes and ends at `end` among the packets.
     Read {

@@ -7,19 +7,19 @@ use crate::{hex, lines, slices};
 // A line has so many commands or records at most: each has eight characters at least, with the space before it.
 pub(crate) const MOST: usize = lines::LONGEST / 8;
 
-#[derive(Drop)]
+#[derive(Clone, Copy)]
 pub(crate) enum Decimal {
     Value(usize),
     Bad,
 }
 
-#[derive(Drop)]
+#[derive(Clone, Copy)]
 pub(crate) enum Number {
     Value(u16),
     Bad,
 }
 
-#[derive(Drop)]
+#[derive(Clone, Copy)]
 pub(crate) enum Items {
     // So many commands or records, with so many bytes of values or packets.
     Read { count: usize, size: usize },
@@ -27,7 +27,7 @@ pub(crate) enum Items {
 }
 
 // Where the bytes of two fields end.
-#[derive(Drop)]
+#[derive(Clone, Copy)]
 pub(crate) enum Two {
     Until { first: usize, second: usize },
     Bad,

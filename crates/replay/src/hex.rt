@@ -13,14 +13,14 @@ pub(crate) fn room() -> [u8; MOST]
     [0; MOST]
 }
 
-#[derive(Drop)]
+#[derive(Clone, Copy)]
 pub(crate) enum Byte {
     Value(u8),
     Bad,
 }
 
 // Where the bytes of a field end.
-#[derive(Drop)]
+#[derive(Clone, Copy)]
 pub(crate) enum Decoded {
     Until(usize),
     Bad,

@@ -8,7 +8,7 @@ use model::Board;
 pub(crate) const LONGEST: usize = 65536;
 
 // The first `held` bytes of the input belong to a line whose end has not come yet.
-#[derive(Drop)]
+#[derive(Clone, Copy)]
 struct State {
     board: Board,
     held: usize,
@@ -16,7 +16,7 @@ struct State {
 }
 
 // The board after the lines that have ended, and how many bytes follow them.
-#[derive(Drop)]
+#[derive(Clone, Copy)]
 struct AnsweredLines {
     board: Board,
     left: usize,

@@ -48,7 +48,7 @@ fn digit(value: u8) -> u8 {
 }
 
 // How a byte is written: as two hex digits, or as the character it is, a line's end as a vertical bar.
-#[derive(Drop)]
+#[derive(Clone, Copy)]
 enum Style {
     Hex,
     Joined,

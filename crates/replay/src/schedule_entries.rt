@@ -3,7 +3,7 @@ use crate::{hex, output};
 use rows::WholeDegrees;
 use schedule::{Entry, Schedule};
 
-#[derive(Drop)]
+#[derive(Clone, Copy)]
 pub(crate) enum Place {
     At(usize),
     Nowhere,

@@ -7,7 +7,7 @@ use tool::listing::Listed;
 use tool::request::Written;
 use tool::response::Response;
 
-#[derive(Drop)]
+#[derive(Clone, Copy)]
 enum Command {
     // The value has `length` bytes and ends at `end` among the values.
     Read {

@@ -12,7 +12,7 @@ use captures::Version;
 use captures::reading::{NextRecord, Opened};
 
 // What became of a capture.
-#[derive(Drop)]
+#[derive(Clone, Copy)]
 pub enum Rewritten {
     // All of it stands in so many bytes.
     Whole(usize),
@@ -22,7 +22,7 @@ pub enum Rewritten {
     Refused(u8),
 }
 
-#[derive(Drop)]
+#[derive(Clone, Copy)]
 enum Fitted {
     Whole,
     Part,

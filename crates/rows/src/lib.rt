@@ -39,7 +39,7 @@ pub struct Range {
 }
 
 // What a row's value is measured in, if it is a temperature.
-#[derive(Drop)]
+#[derive(Clone, Copy)]
 pub enum Quantity {
     Plain,
     Tenths,
@@ -48,7 +48,7 @@ pub enum Quantity {
 
 // A temperature setpoint.
 #[repr(C)]
-#[derive(Drop)]
+#[derive(Clone, Copy)]
 pub struct WholeDegrees {
     pub degrees: u8,
 }

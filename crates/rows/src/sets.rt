@@ -10,7 +10,7 @@ use crate::lookup::{kind_at, quantity_at, range_at, size_at};
 use crate::{Quantity, Range, WholeDegrees};
 
 // What lies next to a number in a range.
-#[derive(Drop)]
+#[derive(Clone, Copy)]
 pub enum Next {
     To(u16),
     Stay,

@@ -14,7 +14,7 @@ const ENTRIES: usize = 28;
 
 // The speed and the temperature of a period, and the minute and hour at which it ends.
 #[repr(C)]
-#[derive(Drop)]
+#[derive(Clone, Copy)]
 pub struct Entry {
     pub speed: u8,
     pub temperature: WholeDegrees,
@@ -24,13 +24,13 @@ pub struct Entry {
 
 // The entries by day and, within a day, by period.
 #[repr(C)]
-#[derive(Drop)]
+#[derive(Clone, Copy)]
 pub struct Schedule {
     pub entries: [Entry; 28],
 }
 
 // What a command is answered with: an entry, the mark of an unknown parameter, or nothing.
-#[derive(Drop)]
+#[derive(Clone, Copy)]
 pub enum Answer {
     Entry { day: u8, period: u8 },
     Unknown,
@@ -38,7 +38,7 @@ pub enum Answer {
 }
 
 // The days that a written day stands for, from the first until before the end.
-#[derive(Drop)]
+#[derive(Clone, Copy)]
 enum Span {
     Until { first: u8, end: u8 },
     Nothing,

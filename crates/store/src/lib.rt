@@ -31,21 +31,21 @@ pub const BYTES: usize = 227;
 
 // A store: the unit type, and the value of each row that it has in its slot, the slots of a product one after the other.
 #[repr(C)]
-#[derive(Drop)]
+#[derive(Clone, Copy)]
 pub struct Store {
     pub unit: u8,
     pub bytes: [u8; BYTES],
 }
 
 // Where a number stands in the table of rows.
-#[derive(Drop)]
+#[derive(Clone, Copy)]
 pub enum Found {
     At(usize),
     Nothing,
 }
 
 // What a command is answered with.
-#[derive(Drop)]
+#[derive(Clone, Copy)]
 pub enum Answer {
     Value,
     Unknown,
@@ -53,14 +53,14 @@ pub enum Answer {
 }
 
 // What a measurement is answered with: refusal 30 is NotMeasured, 31 is WrongLength.
-#[derive(Drop)]
+#[derive(Clone, Copy)]
 pub enum Measurement {
     Accepted,
     NotMeasured,
     WrongLength,
 }
 
-#[derive(Drop)]
+#[derive(Clone, Copy)]
 pub struct Measured {
     pub answer: Measurement,
     pub store: Store,

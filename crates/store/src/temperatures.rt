@@ -14,7 +14,7 @@ use rows::sets::low_first_number;
 use rows::{Quantity, WholeDegrees};
 
 // What a sensor says: a temperature, or one of two marks that are none.
-#[derive(Drop)]
+#[derive(Clone, Copy)]
 enum Reading {
     Temperature(Tenths),
     SensorMissing,

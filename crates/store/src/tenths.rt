@@ -3,7 +3,7 @@ ghost use Rattle.std.specs.Prelude.{false, ◌≡◌};
 ghost use Rattle.store.specs.Temperatures.{is_mark, tenths_of, bits_of};
 
 // A measured temperature.
-#[derive(Drop)]
+#[derive(Clone, Copy)]
 pub struct Tenths {
     tenths: i16,
 }

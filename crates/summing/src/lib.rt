@@ -32,7 +32,7 @@ fn write_field(bytes: &mut [u8], end: usize, number: u64, mark: u8) -> usize
 }
 
 // A line, in the bytes from `start` on.
-#[derive(Drop)]
+#[derive(Clone, Copy)]
 struct PairLine {
     bytes: [u8; LONGEST_LINE],
     start: usize,
@@ -71,7 +71,7 @@ fn line_at(place: usize, count: u64) -> PairLine
 }
 
 // What is left of some room.
-#[derive(Drop)]
+#[derive(Clone, Copy)]
 enum Room {
     Left(usize),
     NoRoom,

@@ -40,7 +40,7 @@ fn to_u64(byte: u8) -> u64
 }
 
 // The lines behind a table, in the first `size` bytes.
-#[derive(Drop)]
+#[derive(Clone, Copy)]
 pub struct LastLines {
     pub bytes: [u8; 2 * LONGEST_LINE],
     pub size: usize,

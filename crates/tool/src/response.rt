@@ -7,7 +7,7 @@ ghost use Rattle.tool.specs.Response.{read_call, response_of, response_as, respo
 
 use framing::{Check, Parsed, Places};
 
-#[derive(Drop)]
+#[derive(Clone, Copy)]
 pub enum Response {
     // The data block stands from `block` to `end`; its reports are what `reports::next_report` hands out, from page 0 on.
     Accepted { block: usize, end: usize },
