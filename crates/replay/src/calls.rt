@@ -1,6 +1,7 @@
 // The call of a line.
 use crate::{board_calls, capture_calls, output, record_calls, slices, table_calls, tool_calls};
 use model::Board;
+use std::io::Stdout;
 
 // The board, and where the text of the answers ends.
 #[derive(Clone, Copy)]
@@ -10,73 +11,80 @@ pub(crate) struct Step {
 }
 
 // A line that is none of the forms changes nothing.
-pub(crate) fn bad(step: Step, text: &mut [u8]) -> Step {
+pub(crate) fn bad(step: Step, out: Stdout, text: &mut [u8]) -> Step {
     let board = step.board;
     Step {
         board,
-        at: output::put_bad(text, step.at),
+        at: output::put_bad(out, text, step.at),
     }
 }
 
 // Makes the call with a name; `left` has its fields.
-fn call(step: Step, name: &[u8], left: &[u8], text: &mut [u8]) -> Step {
+fn call(step: Step, name: &[u8], left: &[u8], out: Stdout, text: &mut [u8]) -> Step {
     if octets::equal(name, b"setup") {
-        return board_calls::set_up(step, left, text);
+        return board_calls::set_up(step, left, out, text);
     }
     if octets::equal(name, b"packet") {
-        return board_calls::packet(step, left, text);
+        return board_calls::packet(step, left, out, text);
     }
     if octets::equal(name, b"measure") {
-        return board_calls::measure(step, left, text);
+        return board_calls::measure(step, left, out, text);
     }
     if octets::equal(name, b"poke") {
-        return record_calls::poke(step, left, text);
+        return record_calls::poke(step, left, out, text);
     }
     let board = step.board;
     Step {
         board,
-        at: inspect(board, name, left, text, step.at),
+        at: inspect(board, name, left, out, text, step.at),
     }
 }
 
 // Makes a call that leaves the board alone.
-fn inspect(board: Board, name: &[u8], left: &[u8], text: &mut [u8], at: usize) -> usize {
+fn inspect(
+    board: Board,
+    name: &[u8],
+    left: &[u8],
+    out: Stdout,
+    text: &mut [u8],
+    at: usize,
+) -> usize {
     if octets::equal(name, b"record") {
-        return record_calls::show(board, left, text, at);
+        return record_calls::show(board, left, out, text, at);
     }
     if octets::equal(name, b"write") {
-        return tool_calls::write(left, text, at);
+        return tool_calls::write(left, out, text, at);
     }
     if octets::equal(name, b"read") {
-        return tool_calls::read(left, text, at);
+        return tool_calls::read(left, out, text, at);
     }
     if octets::equal(name, b"list") {
-        return tool_calls::list(left, text, at);
+        return tool_calls::list(left, out, text, at);
     }
-    call_on_capture(name, left, text, at)
+    call_on_capture(name, left, out, text, at)
 }
 
 // Makes a call on a capture or a table.
-fn call_on_capture(name: &[u8], left: &[u8], text: &mut [u8], at: usize) -> usize {
+fn call_on_capture(name: &[u8], left: &[u8], out: Stdout, text: &mut [u8], at: usize) -> usize {
     if octets::equal(name, b"capread") {
-        return capture_calls::read(left, text, at);
+        return capture_calls::read(left, out, text, at);
     }
     if octets::equal(name, b"capwrite") {
-        return capture_calls::write(left, text, at);
+        return capture_calls::write(left, out, text, at);
     }
     if octets::equal(name, b"summary") {
-        return capture_calls::summary(left, text, at);
+        return capture_calls::summary(left, out, text, at);
     }
     if octets::equal(name, b"rewrite") {
-        return capture_calls::rewrite(left, text, at);
+        return capture_calls::rewrite(left, out, text, at);
     }
     if octets::equal(name, b"export") {
-        return capture_calls::export(left, text, at);
+        return capture_calls::export(left, out, text, at);
     }
     if octets::equal(name, b"import") {
-        return table_calls::import(left, text, at);
+        return table_calls::import(left, out, text, at);
     }
-    output::put_bad(text, at)
+    output::put_bad(out, text, at)
 }
 
 // Empty lines and comments are passed over.
@@ -88,7 +96,7 @@ fn is_passed_over(line: &[u8]) -> bool {
 }
 
 // Answers a line.
-pub(crate) fn answer(step: Step, line: &[u8], text: &mut [u8]) -> Step {
+pub(crate) fn answer(step: Step, line: &[u8], out: Stdout, text: &mut [u8]) -> Step {
     if is_passed_over(line) {
         return step;
     }
@@ -97,11 +105,12 @@ pub(crate) fn answer(step: Step, line: &[u8], text: &mut [u8]) -> Step {
         step,
         octets::first_bytes(line, end),
         octets::bytes_after(line, end),
+        out,
         text,
     );
     let board = done.board;
     Step {
         board,
-        at: output::put(text, done.at, b"\n"),
+        at: output::put(out, text, done.at, b"\n"),
     }
 }

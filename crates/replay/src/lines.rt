@@ -1,8 +1,9 @@
 // The lines of the input.
 use crate::calls::Step;
 use crate::{calls, output, slices};
-use libc::STDIN_FILENO;
+use input::Filled;
 use model::Board;
+use std::io::{Stdin, Stdout};
 
 // The most characters of a line.
 pub(crate) const LONGEST: usize = 65536;
@@ -23,20 +24,20 @@ struct AnsweredLines {
 }
 
 // Answers each line that has ended.
-fn answer_lines(board: Board, lines: &[u8], text: &mut [u8]) -> AnsweredLines {
+fn answer_lines(board: Board, lines: &[u8], out: Stdout, text: &mut [u8]) -> AnsweredLines {
     let mut step = Step { board, at: 0 };
     let mut left = lines;
     loop {
         let end = slices::place_of(left, 0, b'\n');
         if left.len() <= end {
-            output::flush(text, step.at);
+            output::flush(out, text, step.at);
             let next = step.board;
             return AnsweredLines {
                 board: next,
                 left: end,
             };
         }
-        step = calls::answer(step, octets::first_bytes(left, end), text);
+        step = calls::answer(step, octets::first_bytes(left, end), out, text);
         let after = end + 1;
         let rest = &left[after..];
         left = rest;
@@ -75,8 +76,15 @@ fn keep(input: &mut [u8], left: usize) -> usize {
 }
 
 // Answers the lines that end within the first `filled` bytes.
-fn advance(board: Board, input: &mut [u8], filled: usize, text: &mut [u8], open: bool) -> State {
-    let ran = answer_lines(board, octets::first_bytes(input, filled), text);
+fn advance(
+    board: Board,
+    input: &mut [u8],
+    filled: usize,
+    out: Stdout,
+    text: &mut [u8],
+    open: bool,
+) -> State {
+    let ran = answer_lines(board, octets::first_bytes(input, filled), out, text);
     let left = ran.left;
     move_to_start(input, filled, left);
     let held = keep(input, left);
@@ -89,12 +97,11 @@ fn advance(board: Board, input: &mut [u8], filled: usize, text: &mut [u8], open:
 }
 
 // Reads once after the bytes held, and says how many there are then.
-fn fill(input: &mut [u8], held: usize) -> usize {
-    if input.len() < held {
-        return held;
+fn fill(stdin: &mut Stdin, input: &mut [u8], held: usize) -> usize {
+    match input::fill(stdin, input, held) {
+        Filled::Until(filled) => filled,
+        Filled::ReadFailed(_) => held,
     }
-    let got = libc::read(STDIN_FILENO, &mut input[held..]);
-    held + io::count(got, &input[held..])
 }
 
 // Ends the line whose bytes are held.
@@ -107,12 +114,12 @@ fn end_line(input: &mut [u8], held: usize) -> usize {
 }
 
 // Reads once, and answers the lines that have ended. The input's end also ends its last line.
-fn turn(state: State, input: &mut [u8], text: &mut [u8]) -> State {
+fn turn(stdin: &mut Stdin, state: State, input: &mut [u8], out: Stdout, text: &mut [u8]) -> State {
     let board = state.board;
     let held = state.held;
-    let filled = fill(input, held);
+    let filled = fill(stdin, input, held);
     if held < filled {
-        return advance(board, input, filled, text, true);
+        return advance(board, input, filled, out, text, true);
     }
     if held == 0 {
         return State {
@@ -122,11 +129,11 @@ fn turn(state: State, input: &mut [u8], text: &mut [u8]) -> State {
         };
     }
     let ended = end_line(input, held);
-    advance(board, input, ended, text, false)
+    advance(board, input, ended, out, text, false)
 }
 
 // A refused set-up gives the board before the first call. Nothing says that the input ends, so the turns are counted.
-pub(crate) fn replay(input: &mut [u8], text: &mut [u8]) {
+pub(crate) fn replay(stdin: &mut Stdin, input: &mut [u8], out: Stdout, text: &mut [u8]) {
     let answered = board::set_up(b"", b"", 0, rows::MICRA);
     let board = answered.board;
     let mut state = State {
@@ -136,7 +143,7 @@ pub(crate) fn replay(input: &mut [u8], text: &mut [u8]) {
     };
     let mut turns = u64::MAX;
     while 0 < turns {
-        state = turn(state, input, text);
+        state = turn(stdin, state, input, out, text);
         if !state.open {
             return;
         }

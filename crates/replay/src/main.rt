@@ -15,9 +15,10 @@ mod slices;
 mod table_calls;
 mod tool_calls;
 
-fn main() {
+fn main(rt: HostRuntime) {
     // Room for a line and its end.
     let mut input = [0u8; lines::LONGEST + 1];
     let mut text = [0u8; output::ROOM];
-    lines::replay(&mut input, &mut text);
+    let mut stdin = rt.stdin();
+    lines::replay(&mut stdin, &mut input, rt.stdout(), &mut text);
 }

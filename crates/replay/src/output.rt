@@ -1,6 +1,6 @@
 // The text of the answers. Each function puts its text into `text` from `at` on and says where it ends. Where it has no room, what was
 // put before is written out first: an answer may be longer than `text`, as that of a table of up to 1,048,576 bytes is.
-use libc::STDOUT_FILENO;
+use std::io::Stdout;
 
 // How long `text` is: longer than any bytes that are put at once, of which a value of a table has most, 510.
 pub(crate) const ROOM: usize = 65536;
@@ -9,23 +9,23 @@ pub(crate) const ROOM: usize = 65536;
 pub(crate) const FILLER: u8 = 0xA5;
 
 // Writes out what was put into `text`.
-pub(crate) fn flush(text: &[u8], at: usize) {
-    io::write_all(STDOUT_FILENO, octets::first_bytes(text, at));
+pub(crate) fn flush(out: Stdout, text: &[u8], at: usize) {
+    let _ = out.write_all(octets::first_bytes(text, at));
 }
 
 // Where so many bytes go, once there is room for them.
-fn ready(text: &[u8], at: usize, count: usize) -> usize {
+fn ready(out: Stdout, text: &[u8], at: usize, count: usize) -> usize {
     if at <= text.len() {
         if count <= text.len() - at {
             return at;
         }
     }
-    flush(text, at);
+    flush(out, text, at);
     0
 }
 
-pub(crate) fn put(text: &mut [u8], at: usize, bytes: &[u8]) -> usize {
-    let start = ready(text, at, bytes.len());
+pub(crate) fn put(out: Stdout, text: &mut [u8], at: usize, bytes: &[u8]) -> usize {
+    let start = ready(out, text, at, bytes.len());
     if text.len() < start {
         return start;
     }
@@ -54,88 +54,109 @@ enum Style {
     Joined,
 }
 
-fn put_byte(text: &mut [u8], at: usize, byte: u8, style: Style) -> usize {
+fn put_byte(out: Stdout, text: &mut [u8], at: usize, byte: u8, style: Style) -> usize {
     match style {
         Style::Hex => {
             let pair = [digit(byte / 16), digit(byte % 16)];
-            put(text, at, &pair)
+            put(out, text, at, &pair)
         }
         Style::Joined => {
             let character = [joining(byte)];
-            put(text, at, &character)
+            put(out, text, at, &character)
         }
     }
 }
 
-fn put_each(text: &mut [u8], at: usize, bytes: &[u8], style: Style) -> usize {
+fn put_each(out: Stdout, text: &mut [u8], at: usize, bytes: &[u8], style: Style) -> usize {
     let mut end = at;
     let mut i: usize = 0;
     while i < bytes.len() {
-        end = put_byte(text, end, bytes[i], style);
+        end = put_byte(out, text, end, bytes[i], style);
         i += 1;
     }
     end
 }
 
-pub(crate) fn put_hex(text: &mut [u8], at: usize, bytes: &[u8]) -> usize {
-    put_each(text, at, bytes, Style::Hex)
+pub(crate) fn put_hex(out: Stdout, text: &mut [u8], at: usize, bytes: &[u8]) -> usize {
+    put_each(out, text, at, bytes, Style::Hex)
 }
 
 // Hex, or `-` for no bytes.
-pub(crate) fn put_field(text: &mut [u8], at: usize, bytes: &[u8]) -> usize {
+pub(crate) fn put_field(out: Stdout, text: &mut [u8], at: usize, bytes: &[u8]) -> usize {
     if bytes.len() == 0 {
-        return put(text, at, b"-");
+        return put(out, text, at, b"-");
     }
-    put_hex(text, at, bytes)
+    put_hex(out, text, at, bytes)
 }
 
 // A mark, and a number in decimal behind it.
-pub(crate) fn put_decimal(text: &mut [u8], at: usize, mark: &[u8], number: u64) -> usize {
-    let start = put(text, at, mark);
+pub(crate) fn put_decimal(
+    out: Stdout,
+    text: &mut [u8],
+    at: usize,
+    mark: &[u8],
+    number: u64,
+) -> usize {
+    let start = put(out, text, at, mark);
     let mut digits = [0u8; 20];
     let count = io::decimal(number, &mut digits);
-    put(text, start, &digits[..count])
+    put(out, text, start, &digits[..count])
 }
 
 // A mark, and a parameter number behind it, before its value.
-pub(crate) fn put_name(text: &mut [u8], at: usize, mark: &[u8], page: u8, low: u8) -> usize {
+pub(crate) fn put_name(
+    out: Stdout,
+    text: &mut [u8],
+    at: usize,
+    mark: &[u8],
+    page: u8,
+    low: u8,
+) -> usize {
     let number = [page, low];
-    let start = put(text, at, mark);
-    let end = put_hex(text, start, &number);
-    put(text, end, b"=")
+    let start = put(out, text, at, mark);
+    let end = put_hex(out, text, start, &number);
+    put(out, text, end, b"=")
 }
 
 // A parameter and its value.
-pub(crate) fn put_held(text: &mut [u8], at: usize, page: u8, low: u8, value: &[u8]) -> usize {
-    let end = put_name(text, at, b" ", page, low);
-    put_field(text, end, value)
+pub(crate) fn put_held(
+    out: Stdout,
+    text: &mut [u8],
+    at: usize,
+    page: u8,
+    low: u8,
+    value: &[u8],
+) -> usize {
+    let end = put_name(out, text, at, b" ", page, low);
+    put_field(out, text, end, value)
 }
 
-pub(crate) fn put_unknown(text: &mut [u8], at: usize, page: u8, low: u8) -> usize {
-    let end = put_name(text, at, b" ", page, low);
-    put(text, end, b"unknown")
+pub(crate) fn put_unknown(out: Stdout, text: &mut [u8], at: usize, page: u8, low: u8) -> usize {
+    let end = put_name(out, text, at, b" ", page, low);
+    put(out, text, end, b"unknown")
 }
 
-pub(crate) fn put_refused(text: &mut [u8], at: usize, number: u8) -> usize {
-    put_decimal(text, at, b"refused ", number as u64)
+pub(crate) fn put_refused(out: Stdout, text: &mut [u8], at: usize, number: u8) -> usize {
+    put_decimal(out, text, at, b"refused ", number as u64)
 }
 
 // The refusal of what was read up to there.
-pub(crate) fn put_ending(text: &mut [u8], at: usize, number: u8) -> usize {
-    let start = put(text, at, b" ");
-    put_refused(text, start, number)
+pub(crate) fn put_ending(out: Stdout, text: &mut [u8], at: usize, number: u8) -> usize {
+    let start = put(out, text, at, b" ");
+    put_refused(out, text, start, number)
 }
 
-pub(crate) fn put_bad(text: &mut [u8], at: usize) -> usize {
-    put(text, at, b"bad line")
+pub(crate) fn put_bad(out: Stdout, text: &mut [u8], at: usize) -> usize {
+    put(out, text, at, b"bad line")
 }
 
 // The lines of a text, joined by vertical bars, or `-` for no line; its last byte, the last line's end, is left out.
-pub(crate) fn put_joined(text: &mut [u8], at: usize, lines: &[u8]) -> usize {
+pub(crate) fn put_joined(out: Stdout, text: &mut [u8], at: usize, lines: &[u8]) -> usize {
     if lines.len() == 0 {
-        return put(text, at, b"-");
+        return put(out, text, at, b"-");
     }
     put_each(
+        out,
         text,
         at,
         octets::first_bytes(lines, lines.len() - 1),
@@ -162,28 +183,35 @@ fn is_clean(bytes: &[u8]) -> bool {
 }
 
 // A mark where a call changed a buffer outside the length it gave back.
-pub(crate) fn put_dirty(text: &mut [u8], at: usize, rest: &[u8]) -> usize {
+pub(crate) fn put_dirty(out: Stdout, text: &mut [u8], at: usize, rest: &[u8]) -> usize {
     if is_clean(rest) {
         return at;
     }
-    put(text, at, b" dirty")
+    put(out, text, at, b" dirty")
 }
 
 // The refusal of a call to which a buffer was lent.
-pub(crate) fn put_refusal(text: &mut [u8], at: usize, number: u8, buffer: &[u8]) -> usize {
-    let end = put_refused(text, at, number);
-    put_dirty(text, end, buffer)
+pub(crate) fn put_refusal(
+    out: Stdout,
+    text: &mut [u8],
+    at: usize,
+    number: u8,
+    buffer: &[u8],
+) -> usize {
+    let end = put_refused(out, text, at, number);
+    put_dirty(out, text, end, buffer)
 }
 
 // What a call wrote into the first bytes of a lent buffer, behind its name.
 pub(crate) fn put_written(
+    out: Stdout,
     text: &mut [u8],
     at: usize,
     name: &[u8],
     buffer: &[u8],
     length: usize,
 ) -> usize {
-    let start = put(text, at, name);
-    let end = put_hex(text, start, octets::first_bytes(buffer, length));
-    put_dirty(text, end, octets::bytes_after(buffer, length))
+    let start = put(out, text, at, name);
+    let end = put_hex(out, text, start, octets::first_bytes(buffer, length));
+    put_dirty(out, text, end, octets::bytes_after(buffer, length))
 }

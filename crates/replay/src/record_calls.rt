@@ -6,6 +6,7 @@ use crate::schedule_entries::Place;
 use crate::{calls, fields, hex, output, schedule_entries, slices};
 use model::{Board, Parameters};
 use schedule::Schedule;
+use std::io::Stdout;
 use store::{Found, Store};
 
 // Above the number of every row.
@@ -14,16 +15,17 @@ const NUMBERS: u16 = 0x0500;
 // What `record` shows after the identity: the numbers, and then the 28 entries of the schedule, which a Micra alone has.
 const ITEMS: u16 = 0x051C;
 
-fn put_row(text: &mut [u8], at: usize, number: u16, bytes: &[u8], unit: u8) -> usize {
+fn put_row(out: Stdout, text: &mut [u8], at: usize, number: u16, bytes: &[u8], unit: u8) -> usize {
     let Found::At(_) = store::find(unit, number) else {
         return at;
     };
     let page = (number / 256) as u8;
     let low = (number % 256) as u8;
-    output::put_held(text, at, page, low, store::held(bytes, unit, number))
+    output::put_held(out, text, at, page, low, store::held(bytes, unit, number))
 }
 
 fn put_item(
+    out: Stdout,
     text: &mut [u8],
     at: usize,
     item: u16,
@@ -32,42 +34,51 @@ fn put_item(
     schedule: Schedule,
 ) -> usize {
     if item < NUMBERS {
-        return put_row(text, at, item, bytes, unit);
+        return put_row(out, text, at, item, bytes, unit);
     }
     if unit != rows::MICRA {
         return at;
     }
-    schedule_entries::put(text, at, schedule, item - NUMBERS)
+    schedule_entries::put(out, text, at, schedule, item - NUMBERS)
 }
 
-fn put_items(text: &mut [u8], at: usize, bytes: &[u8], unit: u8, schedule: Schedule) -> usize {
+fn put_items(
+    out: Stdout,
+    text: &mut [u8],
+    at: usize,
+    bytes: &[u8],
+    unit: u8,
+    schedule: Schedule,
+) -> usize {
     let mut end = at;
     let mut item: u16 = 0;
     while item < ITEMS {
-        end = put_item(text, end, item, bytes, unit, schedule);
+        end = put_item(out, text, end, item, bytes, unit, schedule);
         item += 1;
     }
     end
 }
 
-fn put_mode(text: &mut [u8], at: usize, mode: u8, unit: u8) -> usize {
-    let end = output::put_decimal(text, at, b" mode=", mode as u64);
-    output::put_decimal(text, end, b" type=", unit as u64)
+fn put_mode(out: Stdout, text: &mut [u8], at: usize, mode: u8, unit: u8) -> usize {
+    let end = output::put_decimal(out, text, at, b" mode=", mode as u64);
+    output::put_decimal(out, text, end, b" type=", unit as u64)
 }
 
-fn put_identity(text: &mut [u8], at: usize, board: Board) -> usize {
+fn put_identity(out: Stdout, text: &mut [u8], at: usize, board: Board) -> usize {
     let id = board.id;
     let password = board.password;
     let size = octets::to_usize(board.size);
-    let before_id = output::put(text, at, b"record id=");
-    let after_id = output::put_field(text, before_id, &id);
-    let before_password = output::put(text, after_id, b" password=");
+    let before_id = output::put(out, text, at, b"record id=");
+    let after_id = output::put_field(out, text, before_id, &id);
+    let before_password = output::put(out, text, after_id, b" password=");
     let after_password = output::put_field(
+        out,
         text,
         before_password,
         octets::first_bytes(&password, size),
     );
     put_mode(
+        out,
         text,
         after_password,
         board.mode,
@@ -76,15 +87,15 @@ fn put_identity(text: &mut [u8], at: usize, board: Board) -> usize {
 }
 
 // record
-pub(crate) fn show(board: Board, left: &[u8], text: &mut [u8], at: usize) -> usize {
+pub(crate) fn show(board: Board, left: &[u8], out: Stdout, text: &mut [u8], at: usize) -> usize {
     if left.len() != 0 {
-        return output::put_bad(text, at);
+        return output::put_bad(out, text, at);
     }
-    let end = put_identity(text, at, board);
+    let end = put_identity(out, text, at, board);
     let parameters = board.parameters;
     let store = parameters.store;
     let bytes = store.bytes;
-    put_items(text, end, &bytes, store.unit, parameters.schedule)
+    put_items(out, text, end, &bytes, store.unit, parameters.schedule)
 }
 
 fn with_id(board: Board, value: &[u8]) -> Board {
@@ -202,62 +213,62 @@ fn with_entry(board: Board, index: usize, value: &[u8]) -> Board {
     with_parameters(board, Parameters { store, schedule })
 }
 
-fn poked(board: Board, text: &mut [u8], at: usize) -> Step {
+fn poked(board: Board, out: Stdout, text: &mut [u8], at: usize) -> Step {
     Step {
         board,
-        at: output::put(text, at, b"poked"),
+        at: output::put(out, text, at, b"poked"),
     }
 }
 
 // poke mode N
-fn poke_mode(step: Step, field: &[u8], text: &mut [u8]) -> Step {
+fn poke_mode(step: Step, field: &[u8], out: Stdout, text: &mut [u8]) -> Step {
     let Byte::Value(mode) = fields::read_byte(field) else {
-        return calls::bad(step, text);
+        return calls::bad(step, out, text);
     };
-    poked(with_mode(step.board, mode), text, step.at)
+    poked(with_mode(step.board, mode), out, text, step.at)
 }
 
 // poke type N
-fn poke_type(step: Step, field: &[u8], text: &mut [u8]) -> Step {
+fn poke_type(step: Step, field: &[u8], out: Stdout, text: &mut [u8]) -> Step {
     let Byte::Value(unit) = fields::read_byte(field) else {
-        return calls::bad(step, text);
+        return calls::bad(step, out, text);
     };
-    poked(with_unit(step.board, unit), text, step.at)
+    poked(with_unit(step.board, unit), out, text, step.at)
 }
 
 // poke id HEX, poke password HEX, poke 0077:D.P VALUE, poke NUMBER VALUE
-fn poke_bytes(step: Step, name: &[u8], value: &[u8], text: &mut [u8]) -> Step {
+fn poke_bytes(step: Step, name: &[u8], value: &[u8], out: Stdout, text: &mut [u8]) -> Step {
     if octets::equal(name, b"id") {
-        return poked(with_id(step.board, value), text, step.at);
+        return poked(with_id(step.board, value), out, text, step.at);
     }
     if octets::equal(name, b"password") {
-        return poked(with_password(step.board, value), text, step.at);
+        return poked(with_password(step.board, value), out, text, step.at);
     }
     if let Place::At(index) = schedule_entries::place_of(name) {
-        return poked(with_entry(step.board, index, value), text, step.at);
+        return poked(with_entry(step.board, index, value), out, text, step.at);
     }
     let Number::Value(number) = fields::read_number(name) else {
-        return calls::bad(step, text);
+        return calls::bad(step, out, text);
     };
-    poked(with_row(step.board, number, value), text, step.at)
+    poked(with_row(step.board, number, value), out, text, step.at)
 }
 
-pub(crate) fn poke(step: Step, left: &[u8], text: &mut [u8]) -> Step {
+pub(crate) fn poke(step: Step, left: &[u8], out: Stdout, text: &mut [u8]) -> Step {
     let name = fields::first(left, b' ');
     let last = fields::after(left, b' ');
     if !fields::is_last(last) {
-        return calls::bad(step, text);
+        return calls::bad(step, out, text);
     }
     let field = fields::first(last, b' ');
     if octets::equal(name, b"mode") {
-        return poke_mode(step, field, text);
+        return poke_mode(step, field, out, text);
     }
     if octets::equal(name, b"type") {
-        return poke_type(step, field, text);
+        return poke_type(step, field, out, text);
     }
     let mut bytes = hex::room();
     let Decoded::Until(end) = hex::decode(field, &mut bytes, 0) else {
-        return calls::bad(step, text);
+        return calls::bad(step, out, text);
     };
-    poke_bytes(step, name, octets::first_bytes(&bytes, end), text)
+    poke_bytes(step, name, octets::first_bytes(&bytes, end), out, text)
 }

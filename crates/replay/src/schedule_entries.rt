@@ -2,6 +2,7 @@
 use crate::{hex, output};
 use rows::WholeDegrees;
 use schedule::{Entry, Schedule};
+use std::io::Stdout;
 
 #[derive(Clone, Copy)]
 pub(crate) enum Place {
@@ -10,14 +11,20 @@ pub(crate) enum Place {
 }
 
 // Puts the entry at an index, days and then periods counted on.
-pub(crate) fn put(text: &mut [u8], at: usize, schedule: Schedule, index: u16) -> usize {
+pub(crate) fn put(
+    out: Stdout,
+    text: &mut [u8],
+    at: usize,
+    schedule: Schedule,
+    index: u16,
+) -> usize {
     let day = (index / 4 % 7 + 1) as u8;
     let period = (index % 4 + 1) as u8;
     let reported = schedule::report(schedule, day, period);
-    let after_day = output::put_decimal(text, at, b" 0077:", day as u64);
-    let after_period = output::put_decimal(text, after_day, b".", period as u64);
-    let before_value = output::put(text, after_period, b"=");
-    output::put_hex(text, before_value, octets::bytes_after(&reported, 2))
+    let after_day = output::put_decimal(out, text, at, b" 0077:", day as u64);
+    let after_period = output::put_decimal(out, text, after_day, b".", period as u64);
+    let before_value = output::put(out, text, after_period, b"=");
+    output::put_hex(out, text, before_value, octets::bytes_after(&reported, 2))
 }
 
 // The index of the entry that a name stands for.

@@ -3,57 +3,71 @@ use crate::hex::Decoded;
 use crate::{fields, hex, output};
 use exporting::Exported;
 use importing::reading::{NextRow, Opened};
+use std::io::Stdout;
 
 // The refusal of a capture, 0 for none, behind its table.
-fn put_capture_refusal(text: &mut [u8], at: usize, number: u8) -> usize {
+fn put_capture_refusal(out: Stdout, text: &mut [u8], at: usize, number: u8) -> usize {
     if number == 0 {
         return at;
     }
-    output::put_decimal(text, at, b" capture,", number as u64)
+    output::put_decimal(out, text, at, b" capture,", number as u64)
 }
 
 // The answer of an export, whose table stands at the start of a lent buffer.
-fn put_exported(text: &mut [u8], at: usize, exported: Exported, buffer: &[u8]) -> usize {
+fn put_exported(
+    out: Stdout,
+    text: &mut [u8],
+    at: usize,
+    exported: Exported,
+    buffer: &[u8],
+) -> usize {
     match exported {
-        Exported::NoRoom => output::put_refusal(text, at, 54, buffer),
+        Exported::NoRoom => output::put_refusal(out, text, at, 54, buffer),
         Exported::Table {
             length,
             refused,
             capture,
         } => {
-            let end = output::put_written(text, at, b"table ", buffer, length);
-            let after_count = output::put_decimal(text, end, b" refused,", refused);
-            put_capture_refusal(text, after_count, capture)
+            let end = output::put_written(out, text, at, b"table ", buffer, length);
+            let after_count = output::put_decimal(out, text, end, b" refused,", refused);
+            put_capture_refusal(out, text, after_count, capture)
         }
     }
 }
 
 // Makes export with what is left behind ROOM.
-pub(crate) fn export_capture(left: &[u8], text: &mut [u8], at: usize, buffer: &mut [u8]) -> usize {
+pub(crate) fn export_capture(
+    left: &[u8],
+    out: Stdout,
+    text: &mut [u8],
+    at: usize,
+    buffer: &mut [u8],
+) -> usize {
     let mut bytes = hex::room();
     let Decoded::Until(end) = fields::decode_last(left, &mut bytes, 0) else {
-        return output::put_bad(text, at);
+        return output::put_bad(out, text, at);
     };
     let exported = exporting::export(buffer, octets::first_bytes(&bytes, end));
-    put_exported(text, at, exported, buffer)
+    put_exported(out, text, at, exported, buffer)
 }
 
 // The refusal of a table at a line, behind the rows before it.
-fn put_refused_line(text: &mut [u8], at: usize, number: u8, line: u64) -> usize {
-    let end = output::put_ending(text, at, number);
-    output::put_decimal(text, end, b" line ", line)
+fn put_refused_line(out: Stdout, text: &mut [u8], at: usize, number: u8, line: u64) -> usize {
+    let end = output::put_ending(out, text, at, number);
+    output::put_decimal(out, text, end, b" line ", line)
 }
 
 // The digits of a value; none for an unknown parameter.
-fn put_value(text: &mut [u8], at: usize, digits: &[u8]) -> usize {
+fn put_value(out: Stdout, text: &mut [u8], at: usize, digits: &[u8]) -> usize {
     if digits.len() == 0 {
-        return output::put(text, at, b"unknown");
+        return output::put(out, text, at, b"unknown");
     }
-    output::put(text, at, digits)
+    output::put(out, text, at, digits)
 }
 
 // A row. The digits of ID and value stand in the table as they are shown; each row has direction 1.
 fn put_row(
+    out: Stdout,
     text: &mut [u8],
     at: usize,
     id: &[u8],
@@ -62,15 +76,15 @@ fn put_row(
     low: u8,
     value: &[u8],
 ) -> usize {
-    let start = output::put(text, at, b" ");
-    let after_id = output::put(text, start, id);
-    let after_counter = output::put_decimal(text, after_id, b".1.", counter as u64);
-    let end = output::put_name(text, after_counter, b".", page, low);
-    put_value(text, end, value)
+    let start = output::put(out, text, at, b" ");
+    let after_id = output::put(out, text, start, id);
+    let after_counter = output::put_decimal(out, text, after_id, b".1.", counter as u64);
+    let end = output::put_name(out, text, after_counter, b".", page, low);
+    put_value(out, text, end, value)
 }
 
 // The rows of a table from a line on, and its refusal.
-fn put_rows(text: &mut [u8], at: usize, rows: &[u8], first_line: u64) -> usize {
+fn put_rows(out: Stdout, text: &mut [u8], at: usize, rows: &[u8], first_line: u64) -> usize {
     let mut end = at;
     let mut left = rows;
     let mut line = first_line;
@@ -78,7 +92,7 @@ fn put_rows(text: &mut [u8], at: usize, rows: &[u8], first_line: u64) -> usize {
         match importing::reading::next_row(left, line) {
             NextRow::End => return end,
             NextRow::Refused { number, line: bad } => {
-                return put_refused_line(text, end, number, bad);
+                return put_refused_line(out, text, end, number, bad);
             }
             NextRow::Row {
                 board,
@@ -92,7 +106,7 @@ fn put_rows(text: &mut [u8], at: usize, rows: &[u8], first_line: u64) -> usize {
             } => {
                 let id = octets::first_bytes(block::part(left, board, 0), 2 * framing::ID_SIZE);
                 let digits = block::part(left, value, value_end);
-                end = put_row(text, end, id, counter, page, low, digits);
+                end = put_row(out, text, end, id, counter, page, low, digits);
                 let after = block::part(left, rest, 0);
                 left = after;
                 line = next;
@@ -101,19 +115,21 @@ fn put_rows(text: &mut [u8], at: usize, rows: &[u8], first_line: u64) -> usize {
     }
 }
 
-fn put_table(text: &mut [u8], at: usize, table: &[u8]) -> usize {
-    let start = output::put(text, at, b"reports");
+fn put_table(out: Stdout, text: &mut [u8], at: usize, table: &[u8]) -> usize {
+    let start = output::put(out, text, at, b"reports");
     match importing::reading::open(table) {
-        Opened::Refused { number, line } => put_refused_line(text, start, number, line),
-        Opened::Table { rest, line } => { put_rows(text, start, block::part(table, rest, 0), line) }
+        Opened::Refused { number, line } => put_refused_line(out, text, start, number, line),
+        Opened::Table { rest, line } => {
+            put_rows(out, text, start, block::part(table, rest, 0), line)
+        }
     }
 }
 
 // import TABLE
-pub(crate) fn import(left: &[u8], text: &mut [u8], at: usize) -> usize {
+pub(crate) fn import(left: &[u8], out: Stdout, text: &mut [u8], at: usize) -> usize {
     let mut bytes = hex::room();
     let Decoded::Until(end) = fields::decode_last(left, &mut bytes, 0) else {
-        return output::put_bad(text, at);
+        return output::put_bad(out, text, at);
     };
-    put_table(text, at, octets::first_bytes(&bytes, end))
+    put_table(out, text, at, octets::first_bytes(&bytes, end))
 }

@@ -3,6 +3,7 @@ use crate::fields::{Decimal, Items, Number, Two};
 use crate::hex::{Byte, Decoded};
 use crate::{fields, hex, output, slices};
 use block::response::NextReport;
+use std::io::Stdout;
 use tool::listing::Listed;
 use tool::request::Written;
 use tool::response::Response;
@@ -78,15 +79,16 @@ fn read_commands(
 }
 
 // The answer of a write, whose packet stands at the start of a lent buffer.
-fn put_written(text: &mut [u8], at: usize, written: Written, buffer: &[u8]) -> usize {
+fn put_written(out: Stdout, text: &mut [u8], at: usize, written: Written, buffer: &[u8]) -> usize {
     match written {
-        Written::Refused(number) => output::put_refusal(text, at, number, buffer),
-        Written::Length(length) => output::put_written(text, at, b"packet ", buffer, length),
+        Written::Refused(number) => output::put_refusal(out, text, at, number, buffer),
+        Written::Length(length) => output::put_written(out, text, at, b"packet ", buffer, length),
     }
 }
 
 // Writes the packet of a command list into a lent buffer.
 fn write_list(
+    out: Stdout,
     text: &mut [u8],
     at: usize,
     buffer: &mut [u8],
@@ -105,7 +107,7 @@ fn write_list(
         &mut lengths,
         &mut values,
     ) else {
-        return output::put_bad(text, at);
+        return output::put_bad(out, text, at);
     };
     let written = tool::request::write(
         buffer,
@@ -116,25 +118,26 @@ fn write_list(
         slices::first_numbers(&lengths, count),
         octets::first_bytes(&values, size),
     );
-    put_written(text, at, written, buffer)
+    put_written(out, text, at, written, buffer)
 }
 
 // write LENGTH ID PASSWORD F:NNNN:VALUE ..
-pub(crate) fn write(left: &[u8], text: &mut [u8], at: usize) -> usize {
+pub(crate) fn write(left: &[u8], out: Stdout, text: &mut [u8], at: usize) -> usize {
     let Decimal::Value(length) = fields::read_decimal(fields::first(left, b' ')) else {
-        return output::put_bad(text, at);
+        return output::put_bad(out, text, at);
     };
     if 1024 < length {
-        return output::put_bad(text, at);
+        return output::put_bad(out, text, at);
     }
     let sender = fields::after(left, b' ');
     let mut bytes = hex::room();
     let Two::Until { first, second } = fields::decode_two(sender, &mut bytes) else {
-        return output::put_bad(text, at);
+        return output::put_bad(out, text, at);
     };
     let both = &bytes[..];
     let mut buffer = [output::FILLER; 1024];
     write_list(
+        out,
         text,
         at,
         &mut buffer[0..length],
@@ -144,7 +147,7 @@ pub(crate) fn write(left: &[u8], text: &mut [u8], at: usize) -> usize {
     )
 }
 
-fn put_reports(text: &mut [u8], at: usize, block: &[u8]) -> usize {
+fn put_reports(out: Stdout, text: &mut [u8], at: usize, block: &[u8]) -> usize {
     let mut end = at;
     let mut left = block;
     let mut page: u8 = 0;
@@ -158,7 +161,14 @@ fn put_reports(text: &mut [u8], at: usize, block: &[u8]) -> usize {
                 value,
                 rest,
             } => {
-                end = output::put_held(text, end, next_page, low, block::part(left, value, rest));
+                end = output::put_held(
+                    out,
+                    text,
+                    end,
+                    next_page,
+                    low,
+                    block::part(left, value, rest),
+                );
                 let after = block::part(left, rest, 0);
                 left = after;
                 page = next_page;
@@ -168,7 +178,7 @@ fn put_reports(text: &mut [u8], at: usize, block: &[u8]) -> usize {
                 low,
                 rest,
             } => {
-                end = output::put_unknown(text, end, next_page, low);
+                end = output::put_unknown(out, text, end, next_page, low);
                 let after = block::part(left, rest, 0);
                 left = after;
                 page = next_page;
@@ -177,25 +187,31 @@ fn put_reports(text: &mut [u8], at: usize, block: &[u8]) -> usize {
     }
 }
 
-fn put_response(text: &mut [u8], at: usize, response: Response, packet: &[u8]) -> usize {
+fn put_response(
+    out: Stdout,
+    text: &mut [u8],
+    at: usize,
+    response: Response,
+    packet: &[u8],
+) -> usize {
     match response {
-        Response::Refused(number) => output::put_refused(text, at, number),
+        Response::Refused(number) => output::put_refused(out, text, at, number),
         Response::Accepted { block, end } => {
-            let start = output::put(text, at, b"reports");
-            put_reports(text, start, slices::part(packet, block, end))
+            let start = output::put(out, text, at, b"reports");
+            put_reports(out, text, start, slices::part(packet, block, end))
         }
     }
 }
 
 // read ID PASSWORD PACKET
-pub(crate) fn read(left: &[u8], text: &mut [u8], at: usize) -> usize {
+pub(crate) fn read(left: &[u8], out: Stdout, text: &mut [u8], at: usize) -> usize {
     let mut bytes = hex::room();
     let Two::Until { first, second } = fields::decode_two(left, &mut bytes) else {
-        return output::put_bad(text, at);
+        return output::put_bad(out, text, at);
     };
     let last = fields::after_two(left);
     let Decoded::Until(end) = fields::decode_last(last, &mut bytes, second) else {
-        return output::put_bad(text, at);
+        return output::put_bad(out, text, at);
     };
     let all = &bytes[..];
     let packet = slices::part(all, second, end);
@@ -204,14 +220,14 @@ pub(crate) fn read(left: &[u8], text: &mut [u8], at: usize) -> usize {
         octets::first_bytes(all, first),
         slices::part(all, first, second),
     );
-    put_response(text, at, response, packet)
+    put_response(out, text, at, response, packet)
 }
 
 // list PACKET
-pub(crate) fn list(left: &[u8], text: &mut [u8], at: usize) -> usize {
+pub(crate) fn list(left: &[u8], out: Stdout, text: &mut [u8], at: usize) -> usize {
     let mut bytes = hex::room();
     let Decoded::Until(end) = fields::decode_last(left, &mut bytes, 0) else {
-        return output::put_bad(text, at);
+        return output::put_bad(out, text, at);
     };
     // The longest listing.
     let mut lines = [0u8; 1753];
@@ -219,5 +235,5 @@ pub(crate) fn list(left: &[u8], text: &mut [u8], at: usize) -> usize {
     else {
         return at;
     };
-    output::put_joined(text, at, octets::first_bytes(&lines, length))
+    output::put_joined(out, text, at, octets::first_bytes(&lines, length))
 }
