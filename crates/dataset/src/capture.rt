@@ -27,8 +27,7 @@ pub struct OpenedCapture {
 }
 
 // Opens a capture, as `captures::reading::open`.
-#[unsafe(no_mangle)]
-pub extern "C" fn udgornwy_open_capture(capture: &[u8]) -> OpenedCapture
+pub fn udgornwy_open_capture(capture: &[u8]) -> OpenedCapture
     ensures { result ≡ opened_in_numbers (opened_of capture.now) }
 {
     match captures::reading::open(capture) {
@@ -100,8 +99,7 @@ fn no_record(kind: u8) -> CaptureRecord
 }
 
 // The first record of what is left of a capture of this version and of so many boards, as `captures::reading::next_record`.
-#[unsafe(no_mangle)]
-pub extern "C" fn udgornwy_next_record(rest: &[u8], version: u16, boards: u16) -> CaptureRecord
+pub fn udgornwy_next_record(rest: &[u8], version: u16, boards: u16) -> CaptureRecord
     ensures { result ≡ next_numbered (version_numbered version) boards rest.now }
 {
     let NumberedVersion::Known(version) = version_numbered(version) else {
@@ -141,16 +139,14 @@ fn written_reply(written: Written) -> Reply
 }
 
 // Writes the head of a capture into the first bytes of `buffer`, as `recording::write_head`.
-#[unsafe(no_mangle)]
-pub extern "C" fn udgornwy_write_head(buffer: &mut [u8], ids: &[u8]) -> Reply
+pub fn udgornwy_write_head(buffer: &mut [u8], ids: &[u8]) -> Reply
     ensures { WritesHead (head_call buffer.old ids.now) result buffer.new }
 {
     written_reply(recording::write_head(buffer, ids))
 }
 
 // Writes a record of a capture of so many boards into the first bytes of `buffer`, as `recording::write_record`.
-#[unsafe(no_mangle)]
-pub extern "C" fn udgornwy_write_record(
+pub fn udgornwy_write_record(
     buffer: &mut [u8],
     boards: u16,
     index: u16,
@@ -164,8 +160,7 @@ pub extern "C" fn udgornwy_write_record(
 }
 
 // Writes a capture into the first bytes of `buffer`, as `recording::write`.
-#[unsafe(no_mangle)]
-pub extern "C" fn udgornwy_write_capture(
+pub fn udgornwy_write_capture(
     buffer: &mut [u8],
     ids: &[u8],
     indexes: &[u16],
@@ -197,8 +192,7 @@ fn rewritten_reply(rewritten: Rewritten) -> Reply
 
 // Rewrites a capture in version 2 into the first bytes of `buffer`, as `rewriting::rewrite`. Refusal 53: `length` bytes hold what stands before
 // the record that is refused.
-#[unsafe(no_mangle)]
-pub extern "C" fn udgornwy_rewrite_capture(buffer: &mut [u8], capture: &[u8]) -> Reply
+pub fn udgornwy_rewrite_capture(buffer: &mut [u8], capture: &[u8]) -> Reply
     ensures { RewritesInNumbers (rewrite_call buffer.old capture.now) result buffer.new }
 {
     rewritten_reply(rewriting::rewrite(buffer, capture))
@@ -219,8 +213,7 @@ pub(crate) fn ending_reply(ending: Ending) -> Reply
 
 // Counts the records that stand in a window from `start` to `end`, as `counts::window::count_window`. Refusal 51: no version has this number; 53: a
 // field outside its range; else `length` bytes are left, and stand at the window's start.
-#[unsafe(no_mangle)]
-pub extern "C" fn udgornwy_count_window(
+pub fn udgornwy_count_window(
     counts: &mut [u64],
     window: &mut [u8],
     start: usize,
@@ -250,8 +243,7 @@ fn shown(listed: Listed) -> Written
 }
 
 // Writes counts, and the line of a refusal where its number is not 0, into the first bytes of `text`, as `summing::write`.
-#[unsafe(no_mangle)]
-pub extern "C" fn udgornwy_show_counts(text: &mut [u8], counts: &[u64], refusal: u8) -> Reply
+pub fn udgornwy_show_counts(text: &mut [u8], counts: &[u64], refusal: u8) -> Reply
     ensures { ShowsCounts (text_of counts.now refusal) text.old result text.new }
 {
     written_reply(shown(summing::write(text, counts, refusal)))

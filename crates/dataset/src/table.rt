@@ -25,8 +25,7 @@ fn put_reply(done: bool, length: usize, number: u16) -> Reply
 }
 
 // Puts the header of a table into the first bytes of `buffer`. Refusal 54: it does not fit.
-#[unsafe(no_mangle)]
-pub extern "C" fn udgornwy_table_header(buffer: &mut [u8]) -> Reply
+pub fn udgornwy_table_header(buffer: &mut [u8]) -> Reply
     ensures { WritesTableHeader buffer.old result buffer.new }
 {
     let done = octets::overwrite(buffer, 0, &tables::header());
@@ -45,8 +44,7 @@ pub struct ExportedTable {
 }
 
 // Exports a capture into the first bytes of `buffer`, as `exporting::export`.
-#[unsafe(no_mangle)]
-pub extern "C" fn udgornwy_export_table(buffer: &mut [u8], capture: &[u8]) -> ExportedTable
+pub fn udgornwy_export_table(buffer: &mut [u8], capture: &[u8]) -> ExportedTable
     ensures { ExportsInNumbers buffer.old capture.now result buffer.new }
 {
     match exporting::export(buffer, capture) {
@@ -95,8 +93,7 @@ fn no_rows(number: u16) -> ExportedRows
 
 // Exports the records that stand in a window from `start` to `end`, as `exporting::window::export_window`. Refusal 51: no version has this
 // number; 54: the text is shorter than 40 bytes for each byte of the records.
-#[unsafe(no_mangle)]
-pub extern "C" fn udgornwy_export_window(
+pub fn udgornwy_export_window(
     text: &mut [u8],
     window: &mut [u8],
     start: usize,
@@ -143,8 +140,7 @@ pub struct OpenedTable {
 }
 
 // Reads the header of a table, as `importing::reading::open`.
-#[unsafe(no_mangle)]
-pub extern "C" fn udgornwy_open_table(text: &[u8]) -> OpenedTable
+pub fn udgornwy_open_table(text: &[u8]) -> OpenedTable
     ensures { result ≡ opened_table (opened_of text.now) }
 {
     match importing::reading::open(text) {
@@ -196,8 +192,7 @@ fn no_row(kind: u8, refusal: u16, line: u64) -> TableRow
 }
 
 // Reads the first row of what is left of a table, whose line has this number, as `importing::reading::next_row`.
-#[unsafe(no_mangle)]
-pub extern "C" fn udgornwy_next_row(text: &[u8], line: u64) -> TableRow
+pub fn udgornwy_next_row(text: &[u8], line: u64) -> TableRow
     ensures { result ≡ row_in_numbers (next_row text.now line) }
 {
     match importing::reading::next_row(text, line) {
@@ -229,8 +224,7 @@ pub extern "C" fn udgornwy_next_row(text: &[u8], line: u64) -> TableRow
 
 // Puts the bytes of pairs of uppercase hexadecimal digits into the first bytes of `bytes`, as `importing::hex::read_hex`. Refusal 63: other
 // digits, or no room for the bytes.
-#[unsafe(no_mangle)]
-pub extern "C" fn udgornwy_read_hex(bytes: &mut [u8], digits: &[u8]) -> Reply
+pub fn udgornwy_read_hex(bytes: &mut [u8], digits: &[u8]) -> Reply
     ensures { ReadsHexInNumbers bytes.old digits.now result bytes.new }
 {
     let done = importing::hex::read_hex(bytes, digits);

@@ -11,8 +11,7 @@ use tool::request::Written;
 use tool::response::Response;
 
 // Writes the request packet of a command list into the first bytes of `buffer`, as `request::write`.
-#[unsafe(no_mangle)]
-pub extern "C" fn udgornwy_write(
+pub fn udgornwy_write(
     buffer: &mut [u8],
     id: &[u8],
     password: &[u8],
@@ -33,8 +32,7 @@ pub extern "C" fn udgornwy_write(
 }
 
 // Judges a response to a request that asked for `id` and sent `password`: the number of the refusal, 0 where there is none.
-#[unsafe(no_mangle)]
-pub extern "C" fn udgornwy_read(packet: &[u8], id: &[u8], password: &[u8]) -> u16
+pub fn udgornwy_read(packet: &[u8], id: &[u8], password: &[u8]) -> u16
     ensures { result ≡ refused_number (response_of (read_call packet.now id.now password.now)) }
 {
     match tool::response::read(packet, id, password) {
@@ -44,8 +42,7 @@ pub extern "C" fn udgornwy_read(packet: &[u8], id: &[u8], password: &[u8]) -> u1
 }
 
 // Lists a response in the first bytes of `text`. Refusal 1: the listing does not fit.
-#[unsafe(no_mangle)]
-pub extern "C" fn udgornwy_list(text: &mut [u8], packet: &[u8]) -> Reply
+pub fn udgornwy_list(text: &mut [u8], packet: &[u8]) -> Reply
     ensures { ListsInNumbers (listing packet.now) text.old result text.new }
 {
     match tool::listing::list(text, packet) {

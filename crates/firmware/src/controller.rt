@@ -44,8 +44,7 @@ fn packet_reply(board: Board, packet: &[u8], response: &mut [u8]) -> Replied
 }
 
 // Lets a packet change the lent record: the packet step on it, and what comes back is stored there.
-#[unsafe(no_mangle)]
-pub extern "C" fn udgornwy_packet(board: &mut Board, packet: &[u8], response: &mut [u8]) -> Reply
+pub fn udgornwy_packet(board: &mut Board, packet: &[u8], response: &mut [u8]) -> Reply
     ensures { Replies (call board.old packet.now response.old) board.new result response.new }
 {
     let done = packet_reply(*board, packet, response);
@@ -82,16 +81,14 @@ fn in_numbers(answered: Answered) -> CallResult
 }
 
 // Sets a board up.
-#[unsafe(no_mangle)]
-pub extern "C" fn udgornwy_set_up(id: &[u8], password: &[u8], mode: u8, unit: u8) -> CallResult
+pub fn udgornwy_set_up(id: &[u8], password: &[u8], mode: u8, unit: u8) -> CallResult
     ensures { result ≡ set_up_result (set_up id.now password.now mode unit) }
 {
     in_numbers(board::set_up(id, password, mode, unit))
 }
 
 // Stores a measured value in its read-only row.
-#[unsafe(no_mangle)]
-pub extern "C" fn udgornwy_measure(board: Board, number: u16, value: &[u8]) -> CallResult
+pub fn udgornwy_measure(board: Board, number: u16, value: &[u8]) -> CallResult
     ensures { result ≡ measure_result (measure_call board number value.now) }
 {
     in_numbers(board::measure(board, number, value))

@@ -14,8 +14,7 @@ pub struct Parts {
 }
 
 // Takes a packet of any length apart, as `udgornwy_packet`, `udgornwy_read` and `udgornwy_list` do.
-#[unsafe(no_mangle)]
-pub extern "C" fn udgornwy_parse(packet: &[u8]) -> Parts
+pub fn udgornwy_parse(packet: &[u8]) -> Parts
     ensures { result ≡ parts_of (parsed_of packet.now) }
 {
     match framing::read(packet) {
