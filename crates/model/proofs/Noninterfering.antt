@@ -85,7 +85,7 @@ claim first second one two (to_both packet buffer ∷ calls) h =
     let on_first = answered_publicly one packet buffer h.0 in
     let on_second = answered_publicly two packet buffer h.1 in
     let rest : Claim _ _ _ (step (call first packet buffer)).board (step (call second packet buffer)).board calls =
-    claim _ _ (step_kept one packet buffer) (step_kept two packet buffer) calls h.2 in
+    claim (step (call first packet buffer)).board (step (call second packet buffer)).board (step_kept one packet buffer) (step_kept two packet buffer) calls h.2 in
     record {
       alike = (on_first.1 ∙ sym on_second.1, on_first.0, on_second.0, rest.alike);
       same_ends = rest.same_ends ∙ (λ i. ends (on_first.0 i) (on_second.0 i) (without calls));
@@ -94,7 +94,7 @@ claim first second one two (to_both packet buffer ∷ calls) h =
       second_discoverable = rest.second_discoverable;
     }
 claim first second one two (to_first own ∷ calls) h =
-    let rest : Claim _ _ _ (board_after first own) second calls = claim _ _ (own_kept one own) two calls h in
+    let rest : Claim _ _ _ (board_after first own) second calls = claim (board_after first own) second (own_kept one own) two calls h in
     record {
       alike = rest.alike;
       same_ends = rest.same_ends;
@@ -103,7 +103,7 @@ claim first second one two (to_first own ∷ calls) h =
       second_discoverable = rest.second_discoverable;
     }
 claim first second one two (to_second own ∷ calls) h =
-    let rest : Claim _ _ _ first (board_after second own) calls = claim _ _ one (own_kept two own) calls h in
+    let rest : Claim _ _ _ first (board_after second own) calls = claim first (board_after second own) one (own_kept two own) calls h in
     record {
       alike = rest.alike;
       same_ends = rest.same_ends;
