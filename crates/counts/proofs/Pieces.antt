@@ -6,20 +6,20 @@ use Rattle.captures.specs.Reading.{Reading, left, wrong, item, reading, read, re
 use Rattle.captures.specs.Statements.{resumed, joined}
 use Rattle.captures.specs.declared.Version.{Version}
 use Rattle.captures.proofs.Records.{read_resumed}
-use Rattle.counts.specs.Counting.{counted, left_of}
+use Rattle.counts.specs.Counting.{counted, counted_one, left_of}
 use Rattle.counts.specs.Statements.{Progress, is_wrong, after, taken, all_taken, PiecesCount}
 
 -- reading on from what is left
-after_resumed : (version : Version) (boards : ℕ) (counts more : List ℕ) (r : Reading) → after counts (resumed version boards r more) ≡ taken version boards (after counts r) more
+after_resumed : (version : Version) (boards : ℕ) (more : List ℕ) (r : Reading) (counts : List ℕ) → after counts (resumed version boards r more) ≡ taken version boards (after counts r) more
 unfolding resumed records_of left_of is_wrong counted
-after_resumed version boards counts more (left bytes) = refl
-after_resumed version boards counts more wrong = refl
-after_resumed version boards counts more (item r rest) = after_resumed version boards _ more rest
+after_resumed version boards more (left bytes) counts = refl
+after_resumed version boards more wrong counts = refl
+after_resumed version boards more (item r rest) counts = after_resumed version boards more rest (counted_one counts r)
 
 module _ (version : Version) (boards : ℕ) (counts : List ℕ) where
   one_more : (front piece : List ℕ) → taken version boards (after counts (read version boards front)) piece ≡ after counts (read version boards (front ++ piece))
   one_more front piece =
-      sym (after_resumed version boards counts piece (read version boards front)) ∙ ap (after counts) (sym (read_resumed version boards front piece))
+      sym (after_resumed version boards piece (read version boards front) counts) ∙ ap (after counts) (sym (read_resumed version boards front piece))
 
   all_from : (front : List ℕ) (pieces : List (List ℕ)) → all_taken version boards (after counts (read version boards front)) pieces ≡ after counts (read version boards (front ++ joined pieces))
   unfolding all_taken joined
