@@ -1,0 +1,17 @@
+use Rattle.summing.proofs.Fields.{holds_size, holds_part}
+use Rattle.summing.proofs.Lines.{written_none, written_more, written_all}
+use borrow.Author.Rules.{rules}
+use Rattle.summing.proofs.write_lines.Goals as goal
+
+pub loop-place-init : goal.loop-place-init
+loop-place-init c = written_none c.args.text.now c.args.counts.now
+
+pub loop-place-preserved : goal.loop-place-preserved
+loop-place-preserved c =
+    let v = c.loop-place in
+    let line = c.line_at-line.ensures in
+    rw (holds_size line)
+    (written_more c.args.text.now c.args.counts.now v.invariant c.requires c.loop-place-test.true (rw (holds_part line) at c.overwrite.ensures))
+
+pub returns : goal.returns
+returns c = written_all c.args.text.now c.args.counts.now c.loop-place.invariant (search rules)
