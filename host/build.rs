@@ -1,4 +1,4 @@
-//! Links the proved static libraries, which `rt staticlib` writes.
+//! Links the proved static libraries, which `./build` writes.
 
 use std::env;
 use std::path::Path;
@@ -13,7 +13,7 @@ fn main() {
     for library in LIBRARIES {
         let archive = folder.join(format!("lib{library}.a"));
         if !archive.is_file() {
-            eprintln!("target/staticlib/lib{library}.a is missing: run `rt staticlib {library}` in the repository's root first");
+            eprintln!("target/staticlib/lib{library}.a is missing: run `./build {library}` in the repository's root first");
             exit(1);
         }
         println!("cargo:rerun-if-changed={}", archive.display());

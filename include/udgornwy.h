@@ -2,11 +2,11 @@
  * Udgornwy: the controller board of a Micra 100 WiFi or a VENTO Expert unit, the tool that writes its requests and reads its responses,
  * captures of their packets, and tables of what captures report.
  *
- * For C (C11) and C++ (C++11). Link target/staticlib/libfirmware.a, which `rt staticlib firmware` writes, and for the calls on captures
- * and tables target/staticlib/libdataset.a, which `rt staticlib dataset` writes; with --gc-sections only what is called comes along. They allocate
+ * For C (C11) and C++ (C++11). Link target/staticlib/libfirmware.a, which `./build firmware` writes, and for the calls on captures
+ * and tables target/staticlib/libdataset.a, which `./build dataset` writes; with --gc-sections only what is called comes along. They allocate
  * nothing, keep nothing between calls and call nothing but memcpy, memmove and memset.
  *
- * The archives are for x86-64 alone, since the kit compiles for nothing else. A board of another kind needs the toolchain to grow first.
+ * The archives are for x86-64 alone, with the instructions of x86-64-v2. A board of another kind needs the toolchain to grow first.
  *
  * For every call:
  *  - A slice is a pointer and a count. The pointer must not be null, also where the count is 0. What a call writes to, record or buffer,

@@ -85,7 +85,7 @@ fn find_program(program: &str) -> Result<PathBuf, String> {
     match path.canonicalize() {
         Ok(found) if found.is_file() => Ok(found),
         _ => Err(format!(
-            "there is no replay program at {program} (`rt check replay` builds it)"
+            "there is no replay program at {program} (`./build replay` builds it)"
         )),
     }
 }
