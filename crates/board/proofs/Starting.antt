@@ -4,7 +4,7 @@ use native.Mathlib.Nat.{zero-add}
 use native.Mathlib.Numerals.{unary_clauses}
 use native.Mathlib.Omega.{arith}
 use mathlib.Core.Bool.{Bool, true, false, cond, not, ◌&&◌, and-false}
-use mathlib.Core.List.{List, [], ◌∷◌, ◌++◌, append-nil}
+use mathlib.Core.List.{List, ◌++◌, append-nil}
 use mathlib.Core.Option.{Option, none, some}
 use mathlib.Core.Path.{◌≡◌, refl, sym, ap, ◌∙◌}
 use borrow.Author.Tests.{le-leb, leb-true, eqb-true}
@@ -21,10 +21,6 @@ use Rattle.store.specs.Operations.{measurable, measurement as measurement_of, re
 use Rattle.rows.specs.Rows.{row_of}
 use Rattle.store.specs.declared.Measurement.{Measurement}
 use Rattle.store.specs.declared.Measurement.TheVariants as measurement
-use Rattle.store.specs.contracts.Measurement as Measurement
-use denote.Enum.Declared.{tag_of}
-use types.Run.{OneOf}
-use mathlib.Core.Logic.{◌⊎◌, ⊎_elim}
 use Rattle.model.specs.Measurement.{MeasureCall, MeasuresBoard, measure_refusal, measure_refusals, measured_board, measured_by}
 use Rattle.model.specs.Record.{sound, is_unit, unit_type, unit_of, entries_sound, password_of, SetUp, SetsUp, is_id, is_mode, set_up_board, set_up_refusal, set_up_refusals, start_board, unset, verdict_of, board_of}
 use Rattle.model.specs.declared.Answered.{Answered}
@@ -78,14 +74,9 @@ unfolding measure_refusal measure_refusals first_refusal
 measure_refusal_by c a b d = λ i. cond (a i) (some 70) (cond (b i) (some 30) (cond (d i) (some 31) none))
 
 -- what the store's answer tells of the two conditions
-not_accepted : {answer : Measurement} → answer ≡ measurement.Accepted → OneOf (1 ∷ 2 ∷ []) (tag_of Measurement.the_type answer) → ⊥
-not_accepted {answer} e h =
-    let tag : tag_of Measurement.the_type answer ≡ 0 = ap (tag_of Measurement.the_type) e in
-    ⊎_elim (λ (other : tag_of Measurement.the_type answer ≡ 1). omega arith) (λ (other : tag_of Measurement.the_type answer ≡ 2). omega arith) h
-
 refused_by : (row size : Bool) {answer : Measurement} → answer ≡ cond row (cond size measurement.Accepted measurement.WrongLength) measurement.NotMeasured
-    → OneOf (1 ∷ 2 ∷ []) (tag_of Measurement.the_type answer) → cond {A = Option ℕ} (not row) (some 30) (cond (not size) (some 31) none) ≡ some (refusal_of answer)
-refused_by true true e h = absurd (not_accepted e h)
+    → (answer ≡ measurement.Accepted → ⊥) → cond {A = Option ℕ} (not row) (some 30) (cond (not size) (some 31) none) ≡ some (refusal_of answer)
+refused_by true true e h = absurd (h e)
 refused_by true false e h = ap (λ (a : Measurement). some (refusal_of a)) (sym e)
 refused_by false size e h = ap (λ (a : Measurement). some (refusal_of a)) (sym e)
 
@@ -96,7 +87,7 @@ accepted_by true false e h = cc
 accepted_by false size e h = cc
 
 module _ (c : MeasureCall) (right : not (sound c.board) ≡ false) {answer : Measurement} (asked : answer ≡ measurement_of (unit_of c.board) c.number c.value) where
-  pub measure_refused : OneOf (1 ∷ 2 ∷ []) (tag_of Measurement.the_type answer) → measure_refusal c ≡ some (refusal_of answer)
+  pub measure_refused : (answer ≡ measurement.Accepted → ⊥) → measure_refusal c ≡ some (refusal_of answer)
   measure_refused h = measure_refusal_by c right refl refl ∙ refused_by (measurable (unit_of c.board) c.number) (eqb (length c.value) (size_of (row_of (unit_of c.board) c.number).set)) asked h
 
   pub measure_accepted : answer ≡ measurement.Accepted → measure_refusal c ≡ none
