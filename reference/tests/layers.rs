@@ -6,8 +6,8 @@ use std::path::Path;
 
 type Uses = BTreeMap<String, BTreeSet<String>>;
 
-/// Crates of the kit, which only programs use.
-const KIT: [&str; 3] = ["io", "libc", "os"];
+/// The crate of the kit that a program uses.
+const KIT: &str = "io";
 
 fn file(name: &str) -> String {
     let root = Path::new(env!("CARGO_MANIFEST_DIR")).join("..");
@@ -18,11 +18,13 @@ fn listed() -> Uses {
     let list = file("crates.txt");
     let lines = list.lines().filter_map(|line| line.split_once(':'));
     let words = |uses: &str| {
-        let words = uses.split_whitespace().filter(|word| !KIT.contains(word));
+        let words = uses.split_whitespace().filter(|word| *word != KIT);
         words.map(String::from).collect()
     };
+    // Behind the name of a static library stands what it is.
+    let name = |names: &str| names.split_whitespace().next().map(String::from);
     lines
-        .map(|(name, uses)| (name.to_string(), words(uses)))
+        .filter_map(|(names, uses)| Some((name(names)?, words(uses))))
         .collect()
 }
 
