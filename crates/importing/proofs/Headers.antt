@@ -3,7 +3,7 @@ use Prim.Native.Nat.{ℕ, ◌<◌, ◌≤◌}
 use mathlib.Core.Bool.{true, false}
 use mathlib.Core.List.{List}
 use mathlib.Core.Path.{◌≡◌}
-use borrow.Author.Tests.{eq-eqb, ne_eqb, lt-ltb, le-ltb}
+use borrow.Author.Tests.{ne_eqb, lt-ltb, le-ltb}
 use lib.ListN.{length, take}
 use Rattle.octets.specs.Octets.{same}
 use Rattle.framing.specs.Refusal.{first_refusal}
@@ -15,9 +15,6 @@ use Rattle.importing.specs.Reading.{rest_size, opened_of}
 use Rattle.importing.specs.declared.reading.Opened.TheVariants as opened
 
 module _ (text : List ℕ) where
-  pub header_missing : length text ≡ 0 → opened_of text ≡ opened.Refused 60 1
-  header_missing e = rw (eq-eqb _ 0 e)
-
   module _ (any : length text ≡ 0 → ⊥) where
     pub header_differs : same (take (line_size text) text) (quoted header_fields) ≡ false → opened_of text ≡ opened.Refused 60 1
     unfolding header_refusals first_refusal

@@ -14,9 +14,6 @@ use Rattle.importing.specs.Reading.{row_at, next_row}
 use Rattle.importing.specs.declared.reading.NextRow.TheVariants as next
 
 module _ (text : List ℕ) (line : ℕ) where
-  pub at_end : length text ≡ 0 → next_row text line ≡ next.End
-  at_end e = rw (eq-eqb _ 0 e)
-
   module _ (any : length text ≡ 0 → ⊥) where
     pub row_open : length text ≤ line_size text → next_row text line ≡ next.Refused 61 line
     unfolding line_refusals first_refusal

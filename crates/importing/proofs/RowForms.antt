@@ -7,7 +7,6 @@ use mathlib.Core.Path.{◌≡◌, refl}
 use borrow.Author.Tests.{eqb-true}
 use lib.Dec.{leb, eqb}
 use lib.ListN.{length, drop, get_or}
-use lib.Seq.{drop-drop}
 use Rattle.octets.proofs.Booleans.{both_true}
 use Rattle.tables.specs.Importing.{all_hex, bytes_in, number_in, field_at, is_hex_field, is_board, is_direction, is_counter, is_number, is_value, in_form}
 use Rattle.importing.specs.Forms.{counter_of, row_fields_of}
@@ -61,14 +60,6 @@ module _ {answer : RowFields} (fields : List (List ℕ)) (told : answer ≡ row_
 
   pub fields_wrong : answer ≡ rows.Wrong → in_form fields ≡ false
   fields_wrong = unformed (in_form fields) told
-
--- the digits of a parameter's number
-pub number_digits : (field : List ℕ) → is_number field ≡ true → (all_hex (drop 2 field) ≡ true) × (length field ≡ 6)
-number_digits field h =
-    let sized = both_true (eqb (get_or field 0 0) 0x30 && is_hex_field (drop 1 field)) (eqb (length field) 6) h in
-    let marked = both_true (eqb (get_or field 0 0) 0x30) (is_hex_field (drop 1 field)) sized.0 in
-    let digits = both_true (eqb (get_or (drop 1 field) 0 0) 0x78) (all_hex (drop 1 (drop 1 field))) (both_true _ _ marked.1).0 in
-    (rw (drop-drop 1 1 field) at digits.1, eqb-true _ _ sized.1)
 
 -- the fields of a row in form
 pub record Formed (fields : List (List ℕ)) : Type 0 where
