@@ -4,6 +4,7 @@ pub mod RowSteps
 pub mod RowRecords
 pub mod Rooms
 pub mod Steps
+pub mod Fits
 pub mod Bounds
 pub mod Tables
 pub mod Captures

@@ -9,7 +9,6 @@ use borrow.Author.Tests.{le-leb, eq-eqb, ne_eqb}
 use lib.ListN.{length, take, drop, length-take}
 use lib.Seq.{take_at}
 use Rattle.octets.specs.Octets.{overwrite}
-use Rattle.octets.proofs.Overwriting.{length_overwrite}
 use Rattle.captures.specs.Form.{record_of}
 use Rattle.tool.specs.Response.{any_response_refusal, any_response_of, reports_of}
 use Rattle.tool.specs.declared.response.Response.{Response}
@@ -31,10 +30,7 @@ id_short ids index = simp length-take (omega arith)
 pub start_short : (ids : List ℕ) (index counter : ℕ) → length (row_start (id_of ids index) counter) ≤ 66
 start_short ids index counter = omega (arith, length_start (id_of ids index) counter, id_short ids index, decimal_short 20 counter)
 
--- what was put first stands first, and ends in the text
-pub put_ends : {text bytes after : List ℕ} {end : ℕ} → Puts text 0 bytes end after → length bytes ≤ length text → end ≤ length after
-put_ends {text} {bytes} done room = omega (arith, done.ends, ap length done.held, length_overwrite text 0 bytes (omega arith))
-
+-- what was put first stands first
 pub put_first : {text bytes after : List ℕ} {end : ℕ} → Puts text 0 bytes end after → take end after ≡ bytes
 put_first {text} {bytes} {end = end} done = rw done.held (take_at bytes (drop (0 + length bytes) text) end (omega (arith, done.ends)))
 
@@ -70,13 +66,14 @@ module _ (ids : List ℕ) (index direction counter : ℕ) (packet : List ℕ) wh
         }
 
 -- what a call leaves that put the rows, or has none to put
+pub record Leaves (ids : List ℕ) (index direction counter : ℕ) (packet : List ℕ) (buffer : List ℕ) (at : ℕ) (end : ℕ) (refused : Bool) (after : List ℕ) : Type 0 where
+  pub ends : end ≡ at + length (record_lines ids (record_of index direction counter packet))
+  pub judged : refused ≡ is_refused (record_of index direction counter packet)
+  pub held : after ≡ overwrite buffer at (record_lines ids (record_of index direction counter packet))
+
 module _ {ids : List ℕ} {index direction counter : ℕ} {packet text : List ℕ} {refused : Bool} (rows : Rows ids index direction counter packet text refused) where
-  pub rows_put :
-      {buffer after : List ℕ} {at end : ℕ} → Puts buffer at text end after
-      → (end ≡ at + length (record_lines ids (record_of index direction counter packet)))
-      × ((refused ≡ is_refused (record_of index direction counter packet))
-      × (after ≡ overwrite buffer at (record_lines ids (record_of index direction counter packet))))
-  rows_put done = rw rows.lines (done.ends, (rows.judged, done.held))
+  pub rows_put : {buffer after : List ℕ} {at end : ℕ} → Puts buffer at text end after → Leaves ids index direction counter packet buffer at end refused after
+  rows_put done = record { ends = rw rows.lines done.ends; judged = rows.judged; held = rw rows.lines done.held }
 
   pub rows_fit :
       (buffer : List ℕ) (at : ℕ) → at + length (record_lines ids (record_of index direction counter packet)) ≤ length buffer → at + length text ≤ length buffer
@@ -85,9 +82,7 @@ module _ {ids : List ℕ} {index direction counter : ℕ} {packet text : List �
 module _ {ids : List ℕ} {index direction counter : ℕ} {packet : List ℕ} {refused : Bool} (rows : Rows ids index direction counter packet [] refused) where
   pub none_put :
       (buffer : List ℕ) (at : ℕ) → at + length (record_lines ids (record_of index direction counter packet)) ≤ length buffer
-      → (at ≡ at + length (record_lines ids (record_of index direction counter packet)))
-      × ((refused ≡ is_refused (record_of index direction counter packet))
-      × (buffer ≡ overwrite buffer at (record_lines ids (record_of index direction counter packet))))
+      → Leaves ids index direction counter packet buffer at at refused buffer
   none_put buffer at h = rows_put rows (all_put (put_none buffer at [] (rows_fit rows buffer at h)))
 
   pub room_kept : (room : ℕ) → Left room ≡ room_after room (record_lines ids (record_of index direction counter packet))

@@ -1,5 +1,5 @@
 -- A table in a buffer: too long for it, or put there.
-use Prim.Native.Nat.{ℕ, ◌+◌, ◌<◌, ◌≤◌}
+use Prim.Native.Nat.{ℕ, ◌+◌, ◌-◌, ◌<◌, ◌≤◌}
 use native.Mathlib.Omega.{arith}
 use mathlib.Core.Bool.{Bool, true, false, cond}
 use mathlib.Core.List.{List, ◌++◌}
@@ -15,11 +15,13 @@ use Rattle.counts.specs.Counting.{end_of, ending_number}
 use Rattle.tables.specs.Fields.{quoted}
 use Rattle.tables.specs.Rows.{header_line}
 use Rattle.tables.specs.Exporting.{refused_count}
-use Rattle.exporting.specs.Text.{records_lines}
+use Rattle.exporting.specs.Text.{records_lines, room_after}
 use Rattle.exporting.specs.Exporting.{capped, PutsRecords, exported_as, ExportsTable, ExportsRecords}
 use Rattle.exporting.specs.declared.Records.{Records}
 use Rattle.exporting.specs.declared.Exported.{Exported}
 use Rattle.exporting.specs.declared.Exported.TheVariants.{Table, NoRoom}
+use Rattle.exporting.specs.declared.rows.Room.TheVariants as room
+use Rattle.exporting.proofs.Rooms.{room_tells}
 
 pub header_size : 48 ≡ length header_line
 unfolding quoted
@@ -54,6 +56,14 @@ module _ (buffer ids : List ℕ) (reading : Reading) where
 
   pub records_refused : length buffer < 48 + length rows → ExportsRecords ids reading buffer NoRoom buffer
   records_refused h = table_refused (lt-ltb (length buffer) (length (header_line ++ rows)) (omega (arith, whole))) refl
+
+  -- what is told of the room behind the header
+  module _ (h : 48 ≤ length buffer) where
+    pub rows_too_long : room_after (length buffer - 48) rows ≡ room.NoRoom → length buffer < 48 + length rows
+    rows_too_long e = omega (arith, room_tells (length buffer - 48) rows e)
+
+    pub rows_have_room : {left : ℕ} → room_after (length buffer - 48) rows ≡ room.Left left → 48 + length rows ≤ length buffer
+    rows_have_room e = omega (arith, room_tells (length buffer - 48) rows e)
 
   module _ (roomy : 48 + length rows ≤ length buffer) where
     pub both_fit : length header_line + length rows ≤ length buffer

@@ -1,10 +1,10 @@
 -- The rows of a window.
-use Prim.Native.Nat.{ℕ, ◌+◌, ◌*◌, ◌/◌, ◌<◌, ◌≤◌}
+use Prim.Native.Nat.{ℕ, ◌+◌, ◌*◌, ◌/◌, ◌≤◌}
 use native.Mathlib.Omega.{arith}
-use mathlib.Core.Bool.{true, false}
+use mathlib.Core.Bool.{false}
 use mathlib.Core.List.{List}
 use mathlib.Core.Path.{◌≡◌, ap, ◌∙◌}
-use borrow.Author.Tests.{lt-ltb, le-ltb}
+use borrow.Author.Tests.{le-ltb}
 use lib.ListN.{length, take, drop}
 use Rattle.octets.specs.Octets.{overwrite}
 use Rattle.captures.specs.Reading.{read}
@@ -19,11 +19,6 @@ use Rattle.exporting.proofs.Bounds.{rows_bounded}
 module _ (call : WindowCall) {filled part : List ℕ} (front : filled ≡ take call.end call.window) (cut : part ≡ drop call.start filled) where
   part_there : part ≡ window_records call
   part_there = cut ∙ ap (drop call.start) front
-
-  pub text_too_short : length call.text / 40 < length part → ExportsWindow call rows.NoRoom call.text call.window
-  text_too_short h =
-      let short : text_short call ≡ true = lt-ltb (length call.text) (40 * length (window_records call)) (omega (arith, ap length part_there)) in
-      record { answered = rw short; held = rw short; kept = rw short }
 
   module _ (long : length part ≤ length call.text / 40) where
     roomy : text_short call ≡ false

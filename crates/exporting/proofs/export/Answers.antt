@@ -1,0 +1,16 @@
+use Prim.Native.Nat.{ℕ, ◌*◌}
+use mathlib.Core.Path.{sym, ap, ◌∙◌}
+use lib.ListN.{take}
+use Rattle.exporting.proofs.Captures.{refused_exports, capture_exports}
+use Rattle.exporting.proofs.export.Goals as goal
+
+pub returns-in-Refused : goal.returns-in-Refused
+returns-in-Refused c = refused_exports c.args.capture.now (sym c.open.ensures ∙ c.in-Refused.is) c.export_header.ensures
+
+pub returns-in-Capture : goal.returns-in-Capture
+returns-in-Capture c =
+    capture_exports c.args.capture.now (sym c.open.ensures ∙ c.in-Capture.is)
+    (ap (λ (n : ℕ). 16 * n) c.u16_to_usize-size.ensures)
+    (c.first_bytes-board_ids.ensures ∙ ap (take (16 * c.u16_to_usize-size.result)) c.bytes_after.ensures)
+    c.bytes_after-rest.ensures
+    c.export_records.ensures

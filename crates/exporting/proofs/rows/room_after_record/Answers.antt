@@ -1,0 +1,33 @@
+use native.Mathlib.Omega.{arith}
+use mathlib.Core.Path.{sym}
+use Rattle.tool.proofs.Listings.{accepts}
+use Rattle.exporting.proofs.RowRecords.{request_rows, refused_rows, accepted_rows, room_kept}
+use Rattle.exporting.proofs.rows.room_after_record.Goals as goal
+
+pub returns-then-direction-ne1 : goal.returns-then-direction-ne1
+returns-then-direction-ne1 c =
+    let args = c.args in
+    room_kept (request_rows args.ids.now args.index args.direction args.counter args.packet.now c.if-direction-ne1.true) args.room
+
+pub returns-in_default : goal.returns-in_default
+returns-in_default c =
+    let args = c.args in
+    room_kept
+    (refused_rows args.ids.now args.index args.direction args.counter args.packet.now c.if-direction-ne1.false c.read_any.ensures c.in_default.is)
+    args.room
+
+pub slice_bounds-room_after_rows-count : goal.slice_bounds-room_after_rows-count
+slice_bounds-room_after_rows-count c = omega (arith, accepts c.args.packet.now c.read_any.ensures c.in-Accepted.is)
+
+pub slice_bounds-room_after_rows-start : goal.slice_bounds-room_after_rows-start
+slice_bounds-room_after_rows-start c = omega (arith, accepts c.args.packet.now c.read_any.ensures c.in-Accepted.is)
+
+pub room_after_rows-requires : goal.room_after_rows-requires
+room_after_rows-requires c = (accepts c.args.packet.now c.read_any.ensures c.in-Accepted.is).formed
+
+pub returns : goal.returns
+returns c =
+    let args = c.args in
+    let rows = accepted_rows args.ids.now args.index args.direction args.counter args.packet.now c.if-direction-ne1.false c.read_any.ensures c.in-Accepted.is in
+    let sized = rw c.id_of.ensures at c.start_size-size.ensures in
+    rw rows.lines (c.room_after_rows.ensures _ (sym sized))

@@ -1,0 +1,29 @@
+use Rattle.exporting.proofs.RowSteps.{row_next, row_end, room_left, room_more, room_none}
+use Rattle.exporting.proofs.rows.room_after_rows.Goals as goal
+
+pub returns-in_default : goal.returns-in_default
+returns-in_default c =
+    λ start sized.
+    let v = c.loop-next_page in
+    let none_left = row_end v.page v.left.now v.invariant.0 c.next_row.ensures c.in_default.is in
+    room_left _ start _ (v.invariant.1 start sized) (none_left start)
+
+pub returns-in_default-room_after_row : goal.returns-in_default-room_after_row
+returns-in_default-room_after_row c =
+    λ start sized.
+    let v = c.loop-next_page in
+    let step = row_next v.page v.left.now v.invariant.0 c.next_row.ensures c.in-Row.is in
+    room_none _ start _ (v.invariant.1 start sized) step sized c.part-bytes.ensures c.room_after_row.ensures c.in_default-room_after_row.is
+
+pub loop-next_page-smaller : goal.loop-next_page-smaller
+loop-next_page-smaller c =
+    let v = c.loop-next_page in
+    let step = row_next v.page v.left.now v.invariant.0 c.next_row.ensures c.in-Row.is in
+    rw c.part-after.ensures step.shorter
+
+pub loop-next_page-preserved : goal.loop-next_page-preserved
+loop-next_page-preserved c =
+    let v = c.loop-next_page in
+    let step = row_next v.page v.left.now v.invariant.0 c.next_row.ensures c.in-Row.is in
+    rw c.part-after.ensures
+    (step.formed, λ start sized. room_more _ start _ (v.invariant.1 start sized) step sized c.part-bytes.ensures c.room_after_row.ensures c.in-Left.is)
