@@ -1,16 +1,13 @@
--- Laws of set-up and of a record's arrays.
-use Prim.Native.Nat.{ℕ, zero, suc, ◌-◌, ◌≤◌}
-use native.Mathlib.Nat.{zero-add}
-use native.Mathlib.Numerals.{unary_clauses}
-use native.Mathlib.Omega.{arith}
+-- Laws of set-up, of a measurement, and of a sound record.
+use Prim.Native.Nat.{ℕ, ◌≤◌}
 use mathlib.Core.Bool.{Bool, true, false, cond, not, ◌&&◌, and-false}
-use mathlib.Core.List.{List, ◌++◌, append-nil}
+use mathlib.Core.List.{List}
 use mathlib.Core.Option.{Option, none, some}
 use mathlib.Core.Path.{◌≡◌, refl, sym, ap, ◌∙◌}
-use borrow.Author.Tests.{le-leb, leb-true, eqb-true}
+use borrow.Author.Tests.{le-leb}
 use lib.Dec.{leb, eqb}
-use lib.ListN.{length, drop, replicate, length-replicate}
-use Rattle.octets.specs.Octets.{Overwrites, same}
+use lib.ListN.{length}
+use Rattle.octets.specs.Octets.{same}
 use Rattle.octets.proofs.Booleans.{both_true}
 use Rattle.framing.specs.Identity.{all_alphanumeric, is_password}
 use Rattle.framing.specs.Refusal.{first_refusal}
@@ -28,22 +25,6 @@ use Rattle.model.specs.declared.Board.{Board}
 use Rattle.model.specs.declared.Verdict.TheVariants.{Accepted, Refused}
 use Rattle.model.proofs.Soundness.{Sized}
 
-drop_replicate : (n m : ℕ) → drop {A = ℕ} n (replicate m 0) ≡ replicate (m - n) 0
-drop_replicate zero m = simp unary_clauses
-drop_replicate (suc n) zero = let none_left : 0 - suc n ≡ 0 = omega arith in rw none_left
-drop_replicate (suc n) (suc m) = drop_replicate n m ∙ simp unary_clauses
-
--- what `octets::overwrite` leaves of an array of zeros
-pub laid_by :
-    (size : ℕ) (bytes : List ℕ) {answer : Bool} {after : List ℕ} → length bytes ≤ size → Overwrites (replicate size 0) 0 bytes answer after
-    → after ≡ bytes ++ replicate (size - length bytes) 0
-laid_by size bytes short done = done.held ∙ rw (zero-add, length-replicate, drop_replicate, le-leb _ _ short)
-
-pub laid_whole : (size : ℕ) (bytes : List ℕ) {answer : Bool} {after : List ℕ} → length bytes ≡ size → Overwrites (replicate size 0) 0 bytes answer after → after ≡ bytes
-laid_whole size bytes e done =
-    let full : size - length bytes ≡ 0 = omega arith in
-    laid_by size bytes (omega arith) done ∙ rw (full, append-nil)
-
 -- the refusal of a set-up by its four conditions
 pub set_up_refusal_by :
     (given : SetUp) {id_wrong password_wrong mode_wrong unit_wrong : Bool} → not (is_id given.id) ≡ id_wrong
@@ -59,11 +40,6 @@ refused_set_up given e r = record { answered = r.1 ∙ ap verdict_of (sym e); ma
 pub accepted_set_up : (given : SetUp) {result : Answered} → set_up_refusal given ≡ none → result.verdict ≡ Accepted → result.board ≡ start_board given → SetsUp given result
 unfolding set_up_board
 accepted_set_up given e v b = record { answered = v ∙ ap verdict_of (sym e); made = b ∙ ap (λ (refusal : Option ℕ). board_of refusal given) (sym e) }
-
--- the lengths that the start record wants
-pub right_lengths : (given : SetUp) → is_id given.id ≡ true → is_password given.password ≡ true → (length given.id ≡ 16) × (length given.password ≤ 8)
-right_lengths given id_right password_right =
-    (eqb-true _ _ (both_true (eqb (length given.id) 16) _ id_right).0, leb-true _ _ (both_true (leb (length given.password) 8) _ password_right).0)
 
 -- the refusal of a measurement by its three conditions
 pub measure_refusal_by :

@@ -5,8 +5,6 @@ use mathlib.Core.Bool.{Bool, true, false, cond, ◌&&◌, and-true, and-false}
 use mathlib.Core.List.{List, [], ◌∷◌, ◌++◌, append-nil}
 use mathlib.Core.Path.{◌≡◌, refl, sym, ap, ◌∙◌}
 use borrow.Author.Tests.{leb-true, lt-leb, leb-false}
-use denote.Enum.Declared.{tag_of}
-use types.Run.{OneOf, miss}
 use lib.ListN.{length, length-append}
 use Rattle.octets.specs.Octets.{overwrite, fits}
 use Rattle.octets.proofs.Overwriting.{length_overwrite, overwrite_after}
@@ -16,19 +14,12 @@ use Rattle.block.specs.Encoding.{encode_report, encode_reports, last_page, encod
 use Rattle.encoding.specs.Writing.{Writes}
 use Rattle.encoding.specs.declared.Written.{Written}
 use Rattle.encoding.specs.declared.Written.TheVariants.{Until, NoRoom, NoEncoding}
-use Rattle.encoding.specs.contracts.Written as Written
 use Rattle.block.proofs.Every.{every_join}
 use Rattle.block.proofs.RoundTrips.{reports_join, last_page_join}
 use Rattle.commands.specs.declared.draft.Cursor.{Cursor}
 use Rattle.commands.specs.declared.draft.Draft.{Draft}
 use Rattle.commands.specs.declared.draft.Room.TheVariants.{Left}
-use Rattle.commands.specs.Draft.{cursor_after, cursor_over, draft_of, draft_at, taken, extended, exceeded, drafted}
-
--- a report that is not written
-pub without_room : (cursor : Cursor) (page : ℕ) (answer : Written) → OneOf (1 ∷ 2 ∷ []) (tag_of Written.the_type answer) → cursor_after cursor page answer ≡ cursor_over cursor
-without_room cursor page (Until length) h = absurd (miss (1 ∷ 2 ∷ []) 0 tt h)
-without_room cursor page NoRoom h = refl
-without_room cursor page NoEncoding h = refl
+use Rattle.commands.specs.Draft.{cursor_after, draft_of, draft_at, taken, extended, exceeded, drafted}
 
 -- one report
 module _ (draft : Draft) (r : Report) where

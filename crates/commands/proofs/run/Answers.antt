@@ -1,7 +1,7 @@
 use Prim.Native.Nat.{ℕ}
 use mathlib.Core.List.{List, ◌∷◌}
 use mathlib.Core.Option.{map}
-use mathlib.Core.Path.{◌≡◌, refl, sym, ap, ◌∙◌}
+use mathlib.Core.Path.{◌≡◌, sym, ap, ◌∙◌}
 use Rattle.block.specs.Command.{Command, command_of}
 use Rattle.block.specs.Reading.{part_of}
 use Rattle.block.specs.declared.request.NextCommand.{NextCommand}
@@ -12,8 +12,6 @@ use Rattle.model.specs.declared.Parameters.{Parameters}
 use Rattle.commands.specs.declared.RunResult.{RunResult}
 use Rattle.commands.specs.declared.Scope.{Scope}
 use Rattle.commands.specs.declared.draft.Draft.{Draft}
-use Rattle.commands.specs.declared.draft.Room.{Room}
-use Rattle.commands.specs.declared.draft.Room.TheVariants.{Left, Over}
 use Rattle.commands.specs.Draft.{blank, draft_at, exceeded, run_from, run_result}
 use Rattle.commands.proofs.Turns.{ran_none, settled_again, turn_left, turn_over}
 use Rattle.commands.proofs.run.Goals as goal
@@ -33,10 +31,6 @@ module _ (stopped : RunResult) (scope : Scope) (held : Parameters) (written : Dr
       → run_from stopped scope held written (commands_from page in_force rest) ≡ whole
       → run_from stopped scope held written (map (λ (cs : List Command). command_of next_function next_page low value ∷ cs) (commands_from next_page next_function (part_of after 0 rest))) ≡ whole
   by_command next_function next_page low from after cut is so_far = rw cut (by_first is so_far)
-
-not_left : (room : Room) → (room ≡ Left → ⊥) → room ≡ Over
-not_left Left h = absurd (h refl)
-not_left Over h = refl
 
 pub returns-in-End : goal.returns-in-End
 returns-in-End c =
@@ -59,7 +53,7 @@ returns-in_default c =
     let stopped = run_result c.args.parameters (exceeded blank) in
     let written = draft_at t.draft t.cursor in
     c.stopped-in_default.ensures
-    ∙ sym (turn_over c.args.scope t.held written t.invariant.0 (command_of next.next_function next.next_page next.low c.part-value.result.now) c.change-held.ensures c.report-cursor.ensures stopped _ (not_left _ c.in_default.not-Left))
+    ∙ sym (turn_over c.args.scope t.held written t.invariant.0 (command_of next.next_function next.next_page next.low c.part-value.result.now) c.change-held.ensures c.report-cursor.ensures stopped _ c.in_default.is)
     ∙ by_command stopped c.args.scope t.held written t.page t.in_force t.rest.now next.next_function next.next_page next.low next.from next.after c.part-value.ensures next.ensures t.invariant.1
 
 pub loop-draft-smaller : goal.loop-draft-smaller
