@@ -4,7 +4,7 @@ use native.Mathlib.Omega.{arith}
 use mathlib.Core.Bool.{Bool, true, false, cond, not}
 use mathlib.Core.List.{List}
 use mathlib.Core.Path.{◌≡◌, refl}
-use borrow.Author.Tests.{eq-eqb, ne_eqb, lt-ltb, le-ltb, ltb-false}
+use borrow.Author.Tests.{ne_eqb, lt-ltb, le-ltb, ltb-false}
 use lib.Dec.{ltb, eqb}
 use lib.ListN.{length}
 use Rattle.captures.specs.declared.reading.NextRecord.{NextRecord}
@@ -15,13 +15,7 @@ use Rattle.captures.specs.declared.Version.{Version}
 use Rattle.captures.proofs.Ranges.{ranges}
 
 module _ (version : Version) (boards : ℕ) (bytes : List ℕ) where
-  pub at_end : length bytes ≡ 0 → next_record version boards bytes ≡ next.End
-  at_end e = rw (eq-eqb _ 0 e)
-
   module _ (some : length bytes ≡ 0 → ⊥) where
-    pub cut_head : length bytes < packet_at version → next_record version boards bytes ≡ next.Cut
-    cut_head h = rw (ne_eqb _ 0 some, lt-ltb _ _ h)
-
     module _ (head : packet_at version ≤ length bytes) where
       pub wrong_field : in_range version boards bytes ≡ false → next_record version boards bytes ≡ next.Wrong
       wrong_field e = rw (ne_eqb _ 0 some, le-ltb _ _ head, e)

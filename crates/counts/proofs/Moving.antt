@@ -7,8 +7,8 @@ use mathlib.Core.List.{List, [], ◌∷◌, ◌++◌}
 use mathlib.Core.Path.{◌≡◌, refl, sym, ap, ◌∙◌}
 use borrow.Author.Tests.{le-leb, lt-leb, leb-true, leb-false}
 use lib.Dec.{leb}
-use lib.ListN.{length, take, drop, get_or, set, length-set, length-drop, drop_of_length-le, take-append-drop}
-use lib.Seq.{take-suc, take-suc-set, get_or-drop, drop-set-lt, drop-drop, drop-length, length-take-le}
+use lib.ListN.{length, take, drop, get_or, set, length-set, length-drop, drop_of_length-le}
+use lib.Seq.{take-suc, take-suc-set, get_or-drop, drop-set-lt, drop-drop, drop-length}
 use Rattle.octets.specs.Octets.{overwrite}
 use Rattle.captures.specs.Form.{packet_at}
 use Rattle.captures.specs.Reading.{index_in, direction_in, size_in, Reading, left, wrong, item, read}
@@ -47,18 +47,6 @@ module _ (bytes : List ℕ) (from i : ℕ) (now : List ℕ) (so_far : Moved byte
             drop-set-lt (i + 1) now i (get_or now (from + i) 0) (omega arith)
             ∙ sym (drop-drop 1 i now) ∙ ap (drop 1) so_far.kept ∙ drop-drop 1 i bytes;
       }
-
--- all of them: they stand in the place of the first
-pub all_moved : (bytes : List ℕ) (from i : ℕ) (now : List ℕ) → Moved bytes from i now → from + i ≤ length bytes → now ≡ overwrite bytes 0 (take i (drop from bytes))
-all_moved bytes from i now done inside =
-    let size : i ≡ 0 + length (take i (drop from bytes)) = omega (arith, length-take-le i (drop from bytes) (simp length-drop (omega arith))) in
-    sym (take-append-drop i now)
-    ∙ (λ k. done.moved k ++ done.kept k)
-    ∙ ap (λ (n : ℕ). take i (drop from bytes) ++ drop n bytes) size
-
--- nothing put there changes nothing
-overwrite_none : (bytes : List ℕ) → bytes ≡ overwrite bytes 0 []
-overwrite_none bytes = refl
 
 -- what is left of some bytes is their end
 pub record Ends (bytes rest : List ℕ) : Type 0 where

@@ -65,9 +65,6 @@ module _ (number end : ℕ) (before : List ℕ) (rest at : ℕ) (now : List ℕ)
       }
 
   module _ (so_far : Digits number end before rest at now) where
-    pub one_before : 9 < rest → 1 ≤ at
-    one_before h = omega (arith, several so_far.left so_far.small h, so_far.placed)
-
     pub next_digit : 9 < rest → Digits number end before (rest / 10) (at - 1) (set now at (digit (rest % 10)))
     next_digit = next_by so_far.left so_far.small so_far.placed so_far.within so_far.as_many so_far.stands
 

@@ -7,7 +7,7 @@ use mathlib.Core.Path.{◌≡◌, refl, sym, ap, ◌∙◌}
 use borrow.Author.Tests.{le-leb, lt-leb}
 use lib.ListN.{length, length-append}
 use Rattle.octets.specs.Octets.{overwrite, Overwrites}
-use Rattle.octets.proofs.Overwriting.{length_overwrite, overwrites_after}
+use Rattle.octets.proofs.Overwriting.{overwrites_after}
 use Rattle.tool.proofs.Texts.{overwrite_nothing}
 use Rattle.summing.specs.Text.{each, line_at, lines_of, room_after, WritesLines}
 use Rattle.summing.specs.declared.Room.TheVariants as room
@@ -72,9 +72,6 @@ module _ (text counts : List ℕ) where
 
   module _ {now : List ℕ} {at place : ℕ} (so_far : Written text counts now at place) where
     module _ (fits : length (lines_of counts) ≤ length text) where
-      pub as_many : length now ≡ length text
-      as_many = ap length so_far.stored ∙ length_overwrite text 0 (before counts place) (omega (arith, before_within counts place so_far.inside))
-
       pub next_ends : place < length counts → at + length (line_at counts place) ≤ length text
       next_ends h = omega (arith, so_far.ends, line_within counts place h)
 

@@ -1,16 +1,16 @@
--- Texts shown in a buffer: too long for it, or written in two parts.
-use Prim.Native.Nat.{ℕ, ◌+◌, ◌-◌, ◌<◌, ◌≤◌}
+-- Texts written into a buffer in two parts.
+use Prim.Native.Nat.{ℕ, ◌+◌, ◌-◌, ◌≤◌}
 use native.Mathlib.Omega.{arith}
 use mathlib.Core.Bool.{Bool, true, false, cond}
 use mathlib.Core.List.{List, ◌++◌}
 use mathlib.Core.Path.{◌≡◌, refl, ap}
-use borrow.Author.Tests.{leb-true, leb-false, le-leb, lt-leb}
+use borrow.Author.Tests.{leb-true, le-leb}
 use lib.Dec.{leb}
 use lib.ListN.{length, length-append}
 use Rattle.octets.specs.Octets.{Overwrites}
 use Rattle.octets.proofs.Overwriting.{overwrites_after}
 use Rattle.tool.specs.Listing.{Shows}
-use Rattle.tool.specs.declared.listing.Listed.TheVariants.{Length, NoRoom}
+use Rattle.tool.specs.declared.listing.Listed.TheVariants.{Length}
 use Rattle.summing.specs.Text.{room_after, WritesLines}
 use Rattle.summing.specs.declared.Room.{Room}
 use Rattle.summing.specs.declared.Room.TheVariants as room
@@ -19,10 +19,6 @@ left_by : (t : Bool) {answer : Room} (rest : ℕ) {left : ℕ} → answer ≡ co
 left_by true rest e h = (refl, cc)
 left_by false rest e h = ((cc), (cc))
 
-none_by : (t : Bool) {answer : Room} (rest : ℕ) → answer ≡ cond t (room.Left rest) room.NoRoom → answer ≡ room.NoRoom → t ≡ false
-none_by true rest e h = cc
-none_by false rest e h = refl
-
 -- what the room left tells of a text's length
 module _ (space : ℕ) (text : List ℕ) {answer : Room} (e : answer ≡ room_after space text) where
   pub text_fits : {left : ℕ} → answer ≡ room.Left left → length text + left ≡ space
@@ -30,17 +26,9 @@ module _ (space : ℕ) (text : List ℕ) {answer : Room} (e : answer ≡ room_af
       let told = left_by (leb (length text) space) (space - length text) e h in
       omega (arith, told.1, leb-true (length text) space told.0)
 
-  pub text_longer : answer ≡ room.NoRoom → space < length text
-  text_longer h = leb-false (length text) space (none_by (leb (length text) space) (space - length text) e h)
-
 module _ (buffer first second : List ℕ) where
   whole : length (first ++ second) ≡ length first + length second
   whole = length-append first second
-
-  pub too_long : length buffer < length first + length second → Shows (first ++ second) buffer NoRoom buffer
-  too_long h =
-      let no_room : leb (0 + length (first ++ second)) (length buffer) ≡ false = lt-leb (0 + length (first ++ second)) (length buffer) (omega (arith, whole)) in
-      record { answered = rw no_room; held = rw no_room }
 
   pub both_shown :
       {at size : ℕ} {between after : List ℕ} {answer : Bool} → length first + length second ≤ length buffer → WritesLines first buffer at between
