@@ -2,32 +2,16 @@
 use Prim.Native.Nat.{ℕ}
 use mathlib.Core.Bool.{Bool, true, false, cond}
 use mathlib.Core.List.{List}
-use mathlib.Core.Option.{Option}
 use mathlib.Core.Path.{◌≡◌, refl, ap, ◌∙◌}
 use lib.ListN.{length}
 use Rattle.octets.specs.Octets.{overwrite}
-use Rattle.captures.specs.Writing.{Writes, written_as, buffer_as}
-use Rattle.captures.specs.declared.writing.Written.{Written}
-use Rattle.rewriting.specs.Rewriting.{RewriteCall, Rewrites}
-use Rattle.rewriting.specs.declared.Rewritten.{Rewritten}
-use Rattle.dataset.specs.Captures.{written_reply, WritesInNumbers, rewritten_reply, RewritesInNumbers, refused_unless}
+use Rattle.captures.specs.Writing.{written_as, buffer_as}
+use Rattle.dataset.specs.Captures.{written_reply, WritesInNumbers, refused_unless}
 use Rattle.dataset.specs.Reply.{reply_with}
 use Rattle.dataset.specs.declared.Reply.{Reply}
 
--- of captures' writers
-pub written_in_numbers :
-    {refused : Option ℕ} {bytes buffer after : List ℕ} {answer : Written} {reply : Reply} → Writes refused bytes buffer answer after
-    → reply ≡ written_reply answer → WritesInNumbers refused bytes buffer reply after
-written_in_numbers wrote same = record { answered = same ∙ ap written_reply wrote.answered; held = wrote.held }
-
--- of a capture that is rewritten
-pub rewritten_in_numbers :
-    {call : RewriteCall} {after : List ℕ} {answer : Rewritten} {reply : Reply} → Rewrites call answer after → reply ≡ rewritten_reply answer
-    → RewritesInNumbers call reply after
-rewritten_in_numbers done same = record { answered = same ∙ ap rewritten_reply done.answered; held = done.held }
-
 -- bytes that are put, or not
-pub held_unless :
+held_unless :
     (done : Bool) (number : ℕ) (bytes buffer : List ℕ) → cond done (overwrite buffer 0 bytes) buffer ≡ buffer_as (refused_unless done number) buffer bytes
 held_unless true number bytes buffer = refl
 held_unless false number bytes buffer = refl
