@@ -9,7 +9,7 @@ use lib.ListN.{length, drop, get_or, drop_of_length-le}
 use Rattle.tables.specs.Lines.{line_size}
 use Rattle.importing.proofs.Sizes.{no_line, line_ends, line_goes_on}
 use Rattle.importing.proofs.reading.line_size.Goals as goal
-use Rattle.importing.proofs.reading.line_size.Goals.{then-text-at-eq13+else-byte_at-eq10, else-text-at-eq13}
+use Rattle.std.proofs.lemmas.Grind.{common_steps}
 
 module _ (text : List ℕ) (at : ℕ) (h : at < length text) (so_far : line_size text ≡ at + line_size (drop at text)) where
   -- CR LF stands at the place
@@ -36,17 +36,15 @@ all_inside text at h so_far =
 
 pub returns-then-byte_at-eq10 : goal.returns-then-byte_at-eq10
 returns-then-byte_at-eq10 c =
-    sym (ended c.args.text.now c.loop-at.at (omega arith) c.loop-at.invariant.1 c.if-text-at-eq13.true (sym c.byte_at.ensures ∙ c.if-byte_at-eq10.true))
+    sym (ended c.args.text.now c.loop-at.at (omega arith) c.loop-at.invariant.1 (omega arith) (sym c.byte_at.ensures ∙ c.if-byte_at-eq10.true))
 
 pub loop-at-preserved : goal.loop-at-preserved
 loop-at-preserved c =
     let text = c.args.text.now in
-    let at = c.loop-at.at in (
+    let at = c.loop-at.at in
+    let here : at < length text = omega arith in (
       omega arith,
-      elim c.if-text-at-eq13.branch [
-        | then-text-at-eq13+else-byte_at-eq10 w ↦ other_second text at (omega arith) c.loop-at.invariant.1 (λ e. w.if-byte_at-eq10.false (w.byte_at.ensures ∙ e))
-        | else-text-at-eq13 w ↦ other_first text at (omega arith) c.loop-at.invariant.1 w.if-text-at-eq13.false
-      ],
+      grind (arith, common_steps, c.loop-at.invariant.1, other_first text at here c.loop-at.invariant.1, other_second text at here c.loop-at.invariant.1),
     )
 
 pub returns : goal.returns
