@@ -1,29 +1,13 @@
-use Prim.Native.Nat.{◌≤◌}
-use native.Mathlib.Omega.{arith}
-use mathlib.Core.Bool.{Bool, ◌&&◌, and_assoc, and-true}
-use mathlib.Core.Path.{sym, ap, ◌∙◌}
-use lib.ListN.{length, drop_of_length-le}
-use Rattle.octets.specs.Octets.{same}
-use Rattle.octets.proofs.Same.{same_lengths, same_step}
+use mathlib.Core.Path.{sym}
+use Rattle.std.proofs.lemmas.Slice.Zip.{Zip-more, either_empty_from_Zip}
+use Rattle.octets.proofs.Same.{same_lengths, same_step, same_end}
 use Rattle.octets.proofs.equal.Goals as goal
 
 pub returns-then-left-right : goal.returns-then-left-right
 returns-then-left-right c = sym (same_lengths _ _ c.if-left-right.true)
 
-pub loop-i-preserved : goal.loop-i-preserved
-loop-i-preserved c = (
-  c.loop-i.invariant.0,
-  omega arith,
-  c.loop-i.invariant.2
-      ∙ ap (λ (after : Bool). c.loop-i.equal && after) (same_step _ _ c.loop-i.i (omega arith) (omega arith))
-      ∙ sym (and_assoc c.loop-i.equal _ _),
-)
+pub loop-one-preserved : goal.loop-one-preserved
+loop-one-preserved c = let step = Zip-more c.loop-one.one-iterator c.next.new.self _ _ c.in-Some.is c.next.ensures.steps in same_step _ _ step.0 step.1 c.loop-one.invariant
 
 pub returns : goal.returns
-unfolding same
-returns c = let left = c.args.left.now in
-    let right = c.args.right.now in
-    let i = c.loop-i.i in
-    let left_ends : length left ≤ i = omega arith in
-    let right_ends : length right ≤ i = omega arith in
-    sym (c.loop-i.invariant.2 ∙ rw (drop_of_length-le left left_ends, drop_of_length-le right right_ends) (and-true c.loop-i.equal))
+returns c = same_end _ c.loop-one.equal _ _ (either_empty_from_Zip c.loop-one.one-iterator c.next.new.self _ c.in-None.is c.next.ensures.steps) c.loop-one.invariant
