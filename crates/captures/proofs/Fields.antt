@@ -7,6 +7,7 @@ use mathlib.Core.List.{List, [], ◌∷◌, ◌++◌}
 use mathlib.Core.Path.{◌≡◌, refl, sym, ap, ◌∙◌}
 use lib.ListN.{length, take, drop, get_or, length-drop}
 use lib.Seq.{drop-cons, take-append-le, drop-append-le, take_at, drop_at, length-take-le, get_or-drop}
+use Rattle.std.specs.Int.{w16, w32, to_le_bytes}
 use Rattle.captures.specs.Numbers.{Bytes, number_of, bytes_of, field}
 
 -- a number's bytes are as many as asked for, and give it back where it has room in them
@@ -53,15 +54,27 @@ field_two (suc at) [] = refl
 field_two zero (byte ∷ bytes) = ap (λ (n : ℕ). byte + 256 * n) (field_one 0 bytes)
 field_two (suc at) (byte ∷ bytes) = field_two at bytes ∙ simp unary_clauses
 
-twice : (at : ℕ) → at + 1 + 1 ≡ at + 2
-twice at = omega arith
-
-pub field_four : (at : ℕ) (l : List ℕ) → at + 4 ≤ length l → field at 4 l ≡ field at 2 l + 65536 * field (at + 2) 2 l
+pub field_four :
+    (at : ℕ) (l : List ℕ) → at + 4 ≤ length l
+    → field at 4 l ≡ get_or l at 0 + 256 * get_or l (at + 1) 0 + 65536 * get_or l (at + 2) 0 + 16777216 * get_or l (at + 3) 0
 field_four at l h =
     let first : field at 4 l ≡ get_or l at 0 + 256 * field (at + 1) 3 l = field_more at 3 l (omega arith) in
     let second : field (at + 1) 3 l ≡ get_or l (at + 1) 0 + 256 * field (at + 1 + 1) 2 l = field_more (at + 1) 2 l (omega arith) in
-    let there : field (at + 1 + 1) 2 l ≡ field (at + 2) 2 l = ap (λ (n : ℕ). field n 2 l) (twice at) in
-    omega (arith, field_two at l)
+    let two : at + 1 + 1 ≡ at + 2 = omega arith in
+    let three : at + 2 + 1 ≡ at + 3 = omega arith in
+    rw (first, second, two, field_two, three) (omega arith)
+
+-- the bytes of a number of two and of four bytes
+pub le_bytes_two : (number : ℕ) → to_le_bytes w16 number ≡ bytes_of 2 number
+unfolding bytes_of
+le_bytes_two number = refl
+
+pub le_bytes_four : (number : ℕ) → to_le_bytes w32 number ≡ bytes_of 4 number
+unfolding bytes_of
+le_bytes_four number =
+    let third : number / 65536 % 256 ≡ number / 256 / 256 % 256 = omega arith in
+    let fourth : number / 16777216 % 256 ≡ number / 256 / 256 / 256 % 256 = omega arith in
+    λ i. number % 256 ∷ number / 256 % 256 ∷ third i ∷ fourth i ∷ []
 
 -- a field looks no further than its bytes
 pub field_front : (at size : ℕ) (l more : List ℕ) → at + size ≤ length l → field at size (l ++ more) ≡ field at size l

@@ -4,7 +4,7 @@ use native.Mathlib.Omega.{arith}
 use mathlib.Core.Bool.{Bool, true, false, cond, not}
 use mathlib.Core.List.{List}
 use mathlib.Core.Path.{◌≡◌, refl}
-use borrow.Author.Tests.{ne_eqb, lt-ltb, le-ltb, ltb-false}
+use borrow.Author.Tests.{ltb-false}
 use lib.Dec.{ltb, eqb}
 use lib.ListN.{length}
 use Rattle.captures.specs.declared.reading.NextRecord.{NextRecord}
@@ -13,22 +13,6 @@ use Rattle.captures.specs.Form.{packet_at}
 use Rattle.captures.specs.Reading.{index_in, direction_in, counter_in, size_in, in_range, next_record}
 use Rattle.captures.specs.declared.Version.{Version}
 use Rattle.captures.proofs.Ranges.{ranges}
-
-module _ (version : Version) (boards : ℕ) (bytes : List ℕ) where
-  module _ (some : length bytes ≡ 0 → ⊥) where
-    module _ (head : packet_at version ≤ length bytes) where
-      pub wrong_field : in_range version boards bytes ≡ false → next_record version boards bytes ≡ next.Wrong
-      wrong_field e = rw (ne_eqb _ 0 some, le-ltb _ _ head, e)
-
-      module _ (right : in_range version boards bytes ≡ true) where
-        pub cut_packet : length bytes < packet_at version + size_in version bytes → next_record version boards bytes ≡ next.Cut
-        cut_packet h = rw (ne_eqb _ 0 some, le-ltb _ _ head, right, lt-ltb _ _ h)
-
-        pub whole_record :
-            packet_at version + size_in version bytes ≤ length bytes
-            → next_record version boards bytes
-            ≡ next.Record (index_in version bytes) (direction_in version bytes) (counter_in version bytes) (length bytes - packet_at version) (length bytes - (packet_at version + size_in version bytes))
-        whole_record h = rw (ne_eqb _ 0 some, le-ltb _ _ head, right, le-ltb _ _ h)
 
 -- where a record stands
 pub record Placed (bytes : List ℕ) (packet rest : ℕ) : Type 0 where

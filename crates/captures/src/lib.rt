@@ -7,7 +7,6 @@ pub mod writing;
 ghost use Rattle.std.specs.Prelude.{◌≡◌, ◌≤◌};
 ghost use Rattle.framing.specs.Refusal.{checked};
 ghost use Rattle.captures.specs.Form.{version_number, index_size, newest, board_limit, wrong_count, fields_in_range};
-ghost use Rattle.captures.specs.Numbers.{bytes_of};
 
 use framing::Check;
 
@@ -73,32 +72,16 @@ fn board_limit(version: Version) -> usize
     }
 }
 
-// A number of two bytes, low byte first.
-pub(crate) fn two_bytes(number: u16) -> [u8; 2]
-    ensures { result ≡ bytes_of 2 number }
-{
-    [(number % 256) as u8, (number / 256) as u8]
-}
-
 // Refusal 52: a capture has 1 to as many boards as its version has.
 pub fn check_count(version: Version, boards: usize) -> Check
     ensures { result ≡ checked (wrong_count version boards) }
 {
-    if boards < 1 {
-        return Check::Failed;
-    }
-    framing::passed_if(boards <= board_limit(version))
+    framing::passed_if((1..=board_limit(version)).contains(&boards))
 }
 
 // Whether the fields of a record are in their ranges.
 pub fn in_range(boards: usize, index: u16, direction: u8, size: usize) -> bool
     ensures { result ≡ fields_in_range boards index direction size }
 {
-    if boards <= octets::u16_to_usize(index) {
-        return false;
-    }
-    if 1 < direction {
-        return false;
-    }
-    size <= framing::LONGEST_PACKET
+    usize::from(index) < boards && direction <= 1 && size <= framing::LONGEST_PACKET
 }

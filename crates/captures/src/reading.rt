@@ -47,20 +47,18 @@ fn check_mark(capture: &[u8]) -> Check
     framing::passed_if(octets::stands_at(capture, 0, b"VLG"))
 }
 
+#[tactic(auto, using(crate::proofs::Fields::le_bytes_two))]
 fn is_version(capture: &[u8], version: Version) -> bool
     ensures { result ≡ is_version version capture.now }
 {
-    let number = super::two_bytes(super::version_number(version));
+    let number = super::version_number(version).to_le_bytes();
     octets::stands_at(capture, super::VERSION_AT, &number)
 }
 
 fn check_version(capture: &[u8]) -> Check
     ensures { result ≡ checked (wrong_version capture.now) }
 {
-    if is_version(capture, Version::One) {
-        return Check::Passed;
-    }
-    framing::passed_if(is_version(capture, Version::Two))
+    framing::passed_if(is_version(capture, Version::One) || is_version(capture, Version::Two))
 }
 
 // The version of a capture that passed the check.
@@ -68,26 +66,22 @@ fn version_of(capture: &[u8]) -> Version
     ensures { result ≡ version_of capture.now }
 {
     if is_version(capture, Version::One) {
-        return Version::One;
+        Version::One
+    } else {
+        Version::Two
     }
-    Version::Two
-}
-
-fn of_two_bytes(low: u8, high: u8) -> u16
-    ensures { result ≡ low + 256 * high }
-{
-    low as u16 + 256 * (high as u16)
 }
 
 // The number that stands at a place near the start, in the bytes of a board index. Past the end a byte counts as 0.
+#[tactic(auto, using(crate::proofs::Fields::field_one, crate::proofs::Fields::field_two))]
 fn index_at(bytes: &[u8], at: usize, version: Version) -> u16
     requires { at ≤ count_at }
     ensures { result ≡ field at (index_size version) bytes.now }
 {
     let low = octets::byte_at(bytes, at);
     match version {
-        Version::One => octets::to_u16(low),
-        Version::Two => of_two_bytes(low, octets::byte_at(bytes, at + 1)),
+        Version::One => u16::from(low),
+        Version::Two => u16::from_le_bytes([low, octets::byte_at(bytes, at + 1)]),
     }
 }
 
@@ -108,23 +102,21 @@ fn ids_at(version: Version) -> usize
 fn records_at(version: Version, boards: u16) -> usize
     ensures { result ≡ ids_at version + 16 * boards }
 {
-    super::COUNT_AT + super::index_size(version) + framing::ID_SIZE * octets::u16_to_usize(boards)
+    ids_at(version) + framing::ID_SIZE * usize::from(boards)
 }
 
 fn check_boards(capture: &[u8], version: Version) -> Check
     ensures { result ≡ checked (wrong_boards version capture.now) }
 {
     let boards = board_count(capture, version);
-    let Check::Passed = super::check_count(version, octets::u16_to_usize(boards)) else {
+    let Check::Passed = super::check_count(version, usize::from(boards)) else {
         return Check::Failed;
     };
-    if capture.len() < records_at(version, boards) {
-        return Check::Failed;
-    }
-    Check::Passed
+    framing::passed_if(records_at(version, boards) <= capture.len())
 }
 
 // The head of a capture.
+#[tactic(auto, unfolding(crate::specs::Reading::head_refusals, crate::specs::Reading::head_refusal, framing::specs::Refusal::first_refusal))]
 pub fn open(capture: &[u8]) -> Opened
     ensures { result ≡ opened_of capture.now }
 {
@@ -148,36 +140,31 @@ pub fn open(capture: &[u8]) -> Opened
 }
 
 // The number of two bytes that stands at a place.
+#[tactic(auto, using(crate::proofs::Fields::field_two))]
 fn short_at(bytes: &[u8], at: usize) -> u16
     requires { at + 2 ≤ length bytes.now }
     ensures { result ≡ field at 2 bytes.now }
 {
-    of_two_bytes(bytes[at], bytes[at + 1])
-}
-
-fn to_u32(number: u16) -> u32
-    ensures { result ≡ number }
-{
-    number as u32
+    u16::from_le_bytes([bytes[at], bytes[at + 1]])
 }
 
 // The number of four bytes that stands at a place.
+#[tactic(auto, using(crate::proofs::Fields::field_four))]
 fn long_at(bytes: &[u8], at: usize) -> u32
     requires { at + 4 ≤ length bytes.now }
     ensures { result ≡ field at 4 bytes.now }
 {
-    let low = to_u32(short_at(bytes, at));
-    let high = to_u32(short_at(bytes, at + 2));
-    low + 65536 * high
+    u32::from_le_bytes([bytes[at], bytes[at + 1], bytes[at + 2], bytes[at + 3]])
 }
 
 // The first record of what is left of a capture of this version and of so many boards.
+#[tactic(auto, using(crate::proofs::Fields::field_one))]
 pub fn next_record(rest: &[u8], version: Version, boards: u16) -> NextRecord
     ensures { result ≡ next_record version boards rest.now }
 {
     let index_size = super::index_size(version);
     let packet_at = index_size + super::PACKET_AFTER;
-    if rest.len() == 0 {
+    if rest.is_empty() {
         return NextRecord::End;
     }
     if rest.len() < packet_at {
@@ -185,8 +172,8 @@ pub fn next_record(rest: &[u8], version: Version, boards: u16) -> NextRecord
     }
     let index = index_at(rest, 0, version);
     let direction = rest[index_size];
-    let size = octets::u16_to_usize(short_at(rest, index_size + super::SIZE_AFTER));
-    if !super::in_range(octets::u16_to_usize(boards), index, direction, size) {
+    let size = usize::from(short_at(rest, index_size + super::SIZE_AFTER));
+    if !super::in_range(usize::from(boards), index, direction, size) {
         return NextRecord::Wrong;
     }
     let packet = rest.len() - packet_at;
