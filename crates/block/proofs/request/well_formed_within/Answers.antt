@@ -15,10 +15,10 @@ returns-in-Malformed c =
 pub loop-read-smaller : goal.loop-read-smaller
 loop-read-smaller c =
     let v = c.loop-read in
-    rw c.part-after.ensures (command_shorter c.args.highest v.page v.in_force v.left.now (sym c.in-Command.ensures))
+    rw c.part-left.ensures (command_shorter c.args.highest v.page v.in_force v.left.now (sym c.in-Command.ensures))
 
 pub loop-read-preserved : goal.loop-read-preserved
 loop-read-preserved c =
     let v = c.loop-read in
-    rw c.part-after.ensures
+    rw c.part-left.ensures
     (sym (commands_formed c.args.highest v.page v.in_force v.left.now (sym c.in-Command.ensures)) ∙ v.invariant)
