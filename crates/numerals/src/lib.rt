@@ -13,12 +13,13 @@ fn hex_digit(digit: u8) -> u8
     ensures { result ≡ hex_digit digit }
 {
     if digit < 10 {
-        return 0x30 + digit;
+        return b'0' + digit;
     }
-    0x37 + digit
+    b'A' + (digit - 10)
 }
 
 // A byte in two digits.
+#[tactic(auto, unfolding(crate::specs::Numerals::hex_bytes))]
 pub fn hex_byte(byte: u8) -> [u8; 2]
     ensures { result ≡ hex_bytes (byte ∷ []) }
 {
@@ -36,13 +37,8 @@ pub fn write_hex(text: &mut [u8], at: usize, bytes: &[u8]) -> bool
     if room / 2 < bytes.len() {
         return false;
     }
-    let mut place = at;
-    let mut i: usize = 0;
-    while i < bytes.len() {
-        let digits = hex_byte(bytes[i]);
-        octets::overwrite(text, place, &digits);
-        place += 2;
-        i += 1;
+    for (i, byte) in bytes.iter().enumerate() {
+        octets::overwrite(text, at + 2 * i, &hex_byte(*byte));
     }
     true
 }
@@ -51,7 +47,7 @@ fn digit_of(number: u64) -> u8
     requires { number < 10 }
     ensures { result ≡ digit number }
 {
-    0x30 + number as u8
+    b'0' + number as u8
 }
 
 // Puts a number in decimal before `end`, and says where it starts.

@@ -14,7 +14,7 @@ returns-then-room-bytes c = no_room _ c.args.at _ (omega (arith, length_hex c.ar
 
 pub loop-i-init : goal.loop-i-init
 unfolding hex_bytes
-loop-i-init c = (omega arith, omega arith, omega arith, paste-zero _ c.args.at c.args.bytes.now)
+loop-i-init c = (omega arith, paste-zero _ c.args.at c.args.bytes.now)
 
 pub loop-i-preserved : goal.loop-i-preserved
 unfolding hex_bytes
@@ -24,8 +24,6 @@ loop-i-preserved c =
     let bytes = args.bytes.now in
     let done : length (hex_bytes (take v.i bytes)) ≡ 2 * v.i = length_hex (take v.i bytes) ∙ ap (λ n. 2 * n) (length-take-le v.i bytes (omega arith)) in (
       v.invariant.0,
-      omega arith,
-      omega arith,
-      overwrites_after args.text.now args.at (hex_bytes (take v.i bytes)) (rw c.hex_byte-digits.ensures at c.overwrite.ensures) (omega arith) v.invariant.3 (omega arith)
+      overwrites_after args.text.now args.at (hex_bytes (take v.i bytes)) (rw c.hex_byte.ensures at c.overwrite.ensures) (omega arith) v.invariant.1 (omega arith)
           ∙ ap (overwrite args.text.now args.at) (sym (hex_take bytes v.i (omega arith))),
     )

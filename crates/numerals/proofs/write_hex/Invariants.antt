@@ -1,4 +1,4 @@
-use Prim.Native.Nat.{◌+◌, ◌-◌, ◌*◌, ◌≤◌}
+use Prim.Native.Nat.{◌+◌, ◌*◌, ◌≤◌}
 use mathlib.Core.Path.{◌≡◌}
 use lib.ListN.{length, take}
 use Rattle.octets.specs.Octets.{overwrite}
@@ -6,7 +6,4 @@ use Rattle.numerals.specs.Numerals.{hex_bytes}
 use Rattle.numerals.proofs.write_hex.Given as goal
 
 abbrev pub invariant-loop-i : goal.invariant-loop-i
-invariant-loop-i l = (l.at + 2 * length l.bytes ≤ length l.initial.text) × (l.i ≤ length l.bytes) × (l.place ≡ l.at + 2 * l.i) × (l.text ≡ overwrite l.initial.text l.at (hex_bytes (take l.i l.bytes)))
-
-abbrev pub decreases-loop-i : goal.decreases-loop-i
-decreases-loop-i l = length l.bytes - l.i
+invariant-loop-i l = (l.at + 2 * length l.bytes ≤ length l.initial.text) × (l.text ≡ overwrite l.initial.text l.at (hex_bytes (take l.i l.bytes)))
