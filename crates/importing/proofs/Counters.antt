@@ -12,7 +12,7 @@ use Rattle.octets.specs.Octets.{between}
 use Rattle.numerals.specs.Numerals.{number_from}
 use Rattle.tables.specs.Importing.{all_digits, counter_limit}
 use Rattle.importing.specs.Forms.{digits_read}
-use Rattle.importing.specs.declared.forms.Counter.TheVariants.{Number, Wrong}
+use Rattle.std.specs.Prelude.{Some, None}
 
 -- more digits make no number smaller
 at_least : (so_far : ℕ) (digits : List ℕ) → so_far ≤ number_from so_far digits
@@ -20,10 +20,10 @@ unfolding number_from
 at_least so_far [] = omega arith
 at_least so_far (digit ∷ digits) = omega (arith, at_least (so_far * 10 + (digit - 0x30)) digits)
 
-pub too_large : (so_far : ℕ) (digits : List ℕ) → counter_limit < so_far → digits_read so_far digits ≡ Wrong
+pub too_large : (so_far : ℕ) (digits : List ℕ) → counter_limit < so_far → digits_read so_far digits ≡ None
 too_large so_far digits h = rw (lt-leb (number_from so_far digits) counter_limit (omega (arith, at_least so_far digits)), and-false (all_digits digits))
 
-pub all_read : (so_far : ℕ) → so_far ≤ counter_limit → digits_read so_far [] ≡ Number so_far
+pub all_read : (so_far : ℕ) → so_far ≤ counter_limit → digits_read so_far [] ≡ Some so_far
 unfolding all_digits number_from
 all_read so_far h = rw (le-leb so_far counter_limit h)
 
@@ -32,6 +32,6 @@ module _ (so_far : ℕ) (digits : List ℕ) (i : ℕ) (h : i < length digits) wh
   unfolding all_digits number_from
   next_digit e = rw (drop-cons digits i 0, add-one, e)
 
-  pub no_digit : between 0x30 0x39 (get_or digits i 0) ≡ false → digits_read so_far (drop i digits) ≡ Wrong
+  pub no_digit : between 0x30 0x39 (get_or digits i 0) ≡ false → digits_read so_far (drop i digits) ≡ None
   unfolding all_digits number_from
   no_digit e = rw (drop-cons digits i 0, e)

@@ -9,56 +9,41 @@ use lib.Dec.{leb, eqb}
 use lib.ListN.{length, drop, get_or}
 use Rattle.octets.proofs.Booleans.{both_true}
 use Rattle.tables.specs.Importing.{all_hex, bytes_in, number_in, field_at, is_hex_field, is_board, is_direction, is_counter, is_number, is_value, in_form}
-use Rattle.importing.specs.Forms.{counter_of, row_fields_of}
+use Rattle.importing.specs.Forms.{counter_of, fields_read, row_fields_of}
 use Rattle.importing.specs.Splitting.{first_field, after_field, first_fields}
-use Rattle.importing.specs.declared.forms.Counter.{Counter}
-use Rattle.importing.specs.declared.forms.Counter.TheVariants as counters
 use Rattle.importing.specs.declared.forms.RowFields.{RowFields}
-use Rattle.importing.specs.declared.forms.RowFields.TheVariants as rows
+use Rattle.std.specs.Prelude.{Option, Some, None}
 
 -- what the answer of `read_counter` tells
-module _ {answer : Counter} (field : List ℕ) (told : answer ≡ counter_of field) where
-  numbered : (right : Bool) → answer ≡ cond right (counters.Number (number_in field)) counters.Wrong → {number : ℕ} → answer ≡ counters.Number number → (right ≡ true) × (number ≡ number_in field)
+module _ {answer : Option ℕ} (field : List ℕ) (told : answer ≡ counter_of field) where
+  numbered : (right : Bool) → answer ≡ cond right (Some (number_in field)) None → {number : ℕ} → answer ≡ Some number → (right ≡ true) × (number ≡ number_in field)
   numbered true e h = (refl, cc)
   numbered false e h = ((cc), (cc))
 
-  pub counter_read : {number : ℕ} → answer ≡ counters.Number number → (is_counter field ≡ true) × (number ≡ number_in field)
+  pub counter_read : {number : ℕ} → answer ≡ Some number → (is_counter field ≡ true) × (number ≡ number_in field)
   counter_read = numbered (is_counter field) told
 
-  misread : (right : Bool) → answer ≡ cond right (counters.Number (number_in field)) counters.Wrong → answer ≡ counters.Wrong → right ≡ false
+  misread : (right : Bool) → answer ≡ cond right (Some (number_in field)) None → answer ≡ None → right ≡ false
   misread true e h = cc
   misread false e h = refl
 
-  pub counter_wrong : answer ≡ counters.Wrong → is_counter field ≡ false
+  pub counter_wrong : answer ≡ None → is_counter field ≡ false
   counter_wrong = misread (is_counter field) told
 
 -- and that of `read_fields`
-abbrev in_form_of : List (List ℕ) → RowFields
-in_form_of fields =
-    rows.InForm (number_in (field_at 2 fields)) (get_or (bytes_in (drop 2 (field_at 3 fields))) 0 0) (get_or (bytes_in (drop 2 (field_at 3 fields))) 1 0) (length (field_at 4 fields))
+module _ {answer : Option RowFields} (fields : List (List ℕ)) (told : answer ≡ row_fields_of fields) where
+  formed : (right : Bool) → answer ≡ cond right (Some (fields_read fields)) None → {read : RowFields} → answer ≡ Some read → (right ≡ true) × (read ≡ fields_read fields)
+  formed true e h = (refl, cc)
+  formed false e h = ((cc), (cc))
 
-pub record FieldsRead (fields : List (List ℕ)) (counter page low value : ℕ) : Type 0 where
-  pub form : in_form fields ≡ true
-  pub counter_same : counter ≡ number_in (field_at 2 fields)
-  pub page_same : page ≡ get_or (bytes_in (drop 2 (field_at 3 fields))) 0 0
-  pub low_same : low ≡ get_or (bytes_in (drop 2 (field_at 3 fields))) 1 0
-  pub value_same : value ≡ length (field_at 4 fields)
+  pub in_form_read : {read : RowFields} → answer ≡ Some read → (in_form fields ≡ true) × (read ≡ fields_read fields)
+  in_form_read = formed (in_form fields) told
 
-module _ {answer : RowFields} (fields : List (List ℕ)) (told : answer ≡ row_fields_of fields) where
-  formed :
-      (right : Bool) → in_form fields ≡ right → answer ≡ cond right (in_form_of fields) rows.Wrong → {counter page low value : ℕ}
-      → answer ≡ rows.InForm counter page low value → FieldsRead fields counter page low value
-  formed true f e h = record { form = f; counter_same = cc; page_same = cc; low_same = cc; value_same = cc }
-  formed false f e h = record { form = cc; counter_same = cc; page_same = cc; low_same = cc; value_same = cc }
-
-  pub fields_read : {counter page low value : ℕ} → answer ≡ rows.InForm counter page low value → FieldsRead fields counter page low value
-  fields_read = formed (in_form fields) refl told
-
-  unformed : (right : Bool) → answer ≡ cond right (in_form_of fields) rows.Wrong → answer ≡ rows.Wrong → right ≡ false
+  unformed : (right : Bool) → answer ≡ cond right (Some (fields_read fields)) None → answer ≡ None → right ≡ false
   unformed true e h = cc
   unformed false e h = refl
 
-  pub fields_wrong : answer ≡ rows.Wrong → in_form fields ≡ false
+  pub fields_wrong : answer ≡ None → in_form fields ≡ false
   fields_wrong = unformed (in_form fields) told
 
 -- the fields of a row in form
@@ -111,7 +96,7 @@ module _ (line : List ℕ) where
   value = is_value (first_field line_4)
 
   abbrev Refused : Type 0
-  Refused = row_fields_of (first_fields 5 line) ≡ rows.Wrong
+  Refused = row_fields_of (first_fields 5 line) ≡ None
 
   pub wrong_board : board ≡ false → Refused
   unfolding first_fields
@@ -136,6 +121,12 @@ module _ (line : List ℕ) where
   pub all_right :
       board ≡ true → direction ≡ true → counter ≡ true → number ≡ true → value ≡ true
       → row_fields_of (first_fields 5 line)
-      ≡ rows.InForm (number_in (first_field line_2)) (get_or (bytes_in (drop 2 (first_field line_3))) 0 0) (get_or (bytes_in (drop 2 (first_field line_3))) 1 0) (length (first_field line_4))
+      ≡ Some
+      record {
+        counter = number_in (first_field line_2);
+        page = get_or (bytes_in (drop 2 (first_field line_3))) 0 0;
+        low = get_or (bytes_in (drop 2 (first_field line_3))) 1 0;
+        value = length (first_field line_4);
+      }
   unfolding first_fields
   all_right b d c n v = rw (b, d, c, n, v)

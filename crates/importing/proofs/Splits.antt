@@ -13,8 +13,7 @@ use Rattle.tables.specs.Fields.{quote, comma, before, opening, inside, closed}
 use Rattle.importing.specs.Splitting.{field_size, size_behind, first_field, after_field, first_fields, end_at, field_end, counted}
 use Rattle.importing.specs.declared.fields.FieldEnd.{FieldEnd}
 use Rattle.importing.specs.declared.fields.FieldEnd.TheVariants as ends
-use Rattle.importing.specs.declared.fields.Fields.{Fields}
-use Rattle.importing.specs.declared.fields.Fields.TheVariants as fields
+use Rattle.std.specs.Prelude as answers
 
 -- the fields, by what ends the first one
 abbrev pub fields_by : FieldEnd → List ℕ → List ℕ → Option (List (List ℕ))
@@ -118,7 +117,7 @@ some_line (c ∷ s) right = omega arith
 -- counting the fields
 count_more : (count : ℕ) (field : List ℕ) (o : Option (List (List ℕ))) → counted count (map (λ (list : List (List ℕ)). field ∷ list) o) ≡ counted (count + 1) o
 count_more count field none = refl
-count_more count field (some list) = ap fields.Count (omega arith)
+count_more count field (some list) = ap answers.Some (omega arith)
 
 module _ (line : List ℕ) (count : ℕ) where
   by_end : {e : FieldEnd} → field_end line ≡ e → counted count (opening line) ≡ counted count (fields_by e (first_field line) (after_field line))
@@ -127,24 +126,24 @@ module _ (line : List ℕ) (count : ℕ) where
   pub count_comma : field_end line ≡ ends.Comma → counted count (opening line) ≡ counted (count + 1) (opening (after_field line))
   count_comma h = by_end h ∙ count_more count (first_field line) (opening (after_field line))
 
-  pub count_line : field_end line ≡ ends.Line → counted count (opening line) ≡ fields.Count (count + 1)
+  pub count_line : field_end line ≡ ends.Line → counted count (opening line) ≡ answers.Some (count + 1)
   count_line h = by_end h
 
-  pub count_wrong : field_end line ≡ ends.Wrong → counted count (opening line) ≡ fields.Wrong
+  pub count_wrong : field_end line ≡ ends.Wrong → counted count (opening line) ≡ answers.None
   count_wrong h = by_end h
 
 pub after_shorter : (line : List ℕ) → length (after_field line) ≤ length line - 1
 after_shorter line = simp length-drop (omega arith)
 
 -- what the answer of `count_fields` tells
-module _ {answer : Fields} where
-  pub some_counted : (o : Option (List (List ℕ))) {count : ℕ} → answer ≡ counted 0 o → answer ≡ fields.Count count → (o ≡ some (Option.get_or o [])) × (count ≡ length (Option.get_or o []))
+module _ {answer : answers.Option ℕ} where
+  pub some_counted : (o : Option (List (List ℕ))) {count : ℕ} → answer ≡ counted 0 o → answer ≡ answers.Some count → (o ≡ some (Option.get_or o [])) × (count ≡ length (Option.get_or o []))
   some_counted none e h = ((cc), (cc))
   some_counted (some list) {count} e h =
       let all : count ≡ 0 + length list = cc in
       (refl, omega arith)
 
-  pub none_counted : (o : Option (List (List ℕ))) → answer ≡ counted 0 o → answer ≡ fields.Wrong → o ≡ none
+  pub none_counted : (o : Option (List (List ℕ))) → answer ≡ counted 0 o → answer ≡ answers.None → o ≡ none
   none_counted none e h = refl
   none_counted (some list) e h = cc
 

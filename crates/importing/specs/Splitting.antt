@@ -1,11 +1,10 @@
 -- The first field of a line, what ends it, and what stands after it.
 use Rattle.std.specs.Prelude.{ℕ, zero, suc, ◌+◌, cond, List, [], ◌∷◌, eqb, length, take, drop, get_or}
 use Rattle.std.proofs.Math.Option.{Option, none, some}
+use Rattle.std.specs.Prelude as answers
 use Rattle.tables.specs.Fields.{quote, comma}
 use Rattle.importing.specs.declared.fields.FieldEnd.{FieldEnd}
 use Rattle.importing.specs.declared.fields.FieldEnd.TheVariants as ends
-use Rattle.importing.specs.declared.fields.Fields.{Fields}
-use Rattle.importing.specs.declared.fields.Fields.TheVariants as fields
 
 unfoldable mutual
   -- the bytes before the quote that ends a field, or all where none does
@@ -42,7 +41,7 @@ end_at (q ∷ c ∷ s) = cond (eqb c comma) ends.Comma ends.Wrong
 abbrev pub field_end : List ℕ → FieldEnd
 field_end line = cond (eqb (get_or line 0 0) quote) (end_at (closing_of line)) ends.Wrong
 
--- how many fields there are, after so many
-abbrev pub counted : ℕ → Option (List (List ℕ)) → Fields
-counted count none = fields.Wrong
-counted count (some list) = fields.Count (count + length list)
+-- how many fields there are, after so many; none where the quoting fails
+abbrev pub counted : ℕ → Option (List (List ℕ)) → answers.Option ℕ
+counted count none = answers.None
+counted count (some list) = answers.Some (count + length list)

@@ -14,13 +14,6 @@ pub(crate) enum FieldEnd {
     Wrong,
 }
 
-#[derive(Clone, Copy)]
-pub(crate) enum Fields {
-    Count(usize),
-    // The quoting fails.
-    Wrong,
-}
-
 // The bytes before the quote that ends a field, or all where none does.
 fn field_size(bytes: &[u8]) -> usize
     ensures { result ≡ field_size bytes.now }
@@ -46,16 +39,11 @@ fn field_end(line: &[u8]) -> FieldEnd
     }
     let bytes = octets::bytes_after(line, 1);
     let closing = octets::bytes_after(bytes, field_size(bytes));
-    if closing.len() == 0 {
-        return FieldEnd::Wrong;
+    match closing {
+        [_] => FieldEnd::Line,
+        [_, b',', ..] => FieldEnd::Comma,
+        _ => FieldEnd::Wrong,
     }
-    if closing.len() == 1 {
-        return FieldEnd::Line;
-    }
-    if closing[1] == b',' {
-        return FieldEnd::Comma;
-    }
-    FieldEnd::Wrong
 }
 
 // The first field, as it stands between its quotes.
@@ -75,7 +63,8 @@ pub(crate) fn after_field(line: &[u8]) -> &[u8]
     octets::bytes_after(closing, 2)
 }
 
-pub(crate) fn count_fields(line: &[u8]) -> Fields
+// How many fields a line has; none where the quoting fails.
+pub(crate) fn count_fields(line: &[u8]) -> Option<usize>
     ensures { result ≡ counted 0 (fields_of line.now) }
 {
     let mut count: usize = 0;
@@ -87,8 +76,8 @@ pub(crate) fn count_fields(line: &[u8]) -> Fields
                 let next = after_field(rest);
                 rest = next;
             }
-            FieldEnd::Line => return Fields::Count(count + 1),
-            FieldEnd::Wrong => return Fields::Wrong,
+            FieldEnd::Line => return Some(count + 1),
+            FieldEnd::Wrong => return None,
         }
     }
 }

@@ -6,9 +6,6 @@ ghost use Rattle.importing.specs.Forms.{digits_read, counter_of, row_fields_of};
 
 use crate::{fields, hex};
 
-// The largest number of 32 bits.
-const COUNTER_LIMIT: u64 = 4294967295;
-
 // x and two digits for each of 16 bytes.
 const BOARD_SIZE: usize = 33;
 
@@ -18,24 +15,13 @@ const NUMBER_SIZE: usize = 6;
 // x and two digits for each of 255 bytes.
 const LONGEST_VALUE: usize = 511;
 
+// What stands in the fields of a row: page and low byte of the parameter, and how many bytes the value's field has.
 #[derive(Clone, Copy)]
-enum Counter {
-    Number(u32),
-    // Outside its form, or over 32 bits.
-    Wrong,
-}
-
-// What stands in the fields of a row.
-#[derive(Clone, Copy)]
-pub(crate) enum RowFields {
-    // Page and low byte of the parameter, and how many bytes the value's field has.
-    InForm {
-        counter: u32,
-        page: u8,
-        low: u8,
-        value: usize,
-    },
-    Wrong,
+pub(crate) struct RowFields {
+    pub(crate) counter: u32,
+    pub(crate) page: u8,
+    pub(crate) low: u8,
+    pub(crate) value: usize,
 }
 
 // x and two digits for each byte.
@@ -91,80 +77,62 @@ fn is_value(field: &[u8]) -> bool
 fn leads_right(digits: &[u8]) -> bool
     ensures { result ≡ (ltb 0x30 (get_or digits.now 0 0) || eqb (length digits.now) 1) }
 {
-    if b'0' < octets::byte_at(digits, 0) {
-        return true;
-    }
-    digits.len() == 1
+    b'0' < octets::byte_at(digits, 0) || digits.len() == 1
 }
 
-fn digit_value(digit: u8) -> u64
-    requires { 0x30 ≤ digit }
-    ensures { result ≡ digit - 0x30 }
-{
-    (digit - b'0') as u64
-}
-
-// The number of decimal digits, where it is one of 32 bits.
-fn read_digits(digits: &[u8]) -> Counter
+// The number of decimal digits; none where another byte stands among them, or it is over 32 bits.
+fn read_digits(digits: &[u8]) -> Option<u32>
     ensures { result ≡ digits_read 0 digits.now }
 {
-    let mut number: u64 = 0;
-    let mut i: usize = 0;
-    while i < digits.len() {
-        let digit = digits[i];
-        if !octets::is_between(b'0', b'9', digit) {
-            return Counter::Wrong;
+    let mut number: u32 = 0;
+    for digit in digits {
+        if !octets::is_between(b'0', b'9', *digit) {
+            return None;
         }
-        number = number * 10 + digit_value(digit);
-        if COUNTER_LIMIT < number {
-            return Counter::Wrong;
-        }
-        i += 1;
+        number = number
+            .checked_mul(10)?
+            .checked_add(u32::from(*digit - b'0'))?;
     }
-    Counter::Number(number as u32)
+    Some(number)
 }
 
-fn read_counter(field: &[u8]) -> Counter
+// None where it is outside its form, or over 32 bits.
+fn read_counter(field: &[u8]) -> Option<u32>
     ensures { result ≡ counter_of field.now }
 {
-    if field.len() == 0 {
-        return Counter::Wrong;
-    }
-    if !leads_right(field) {
-        return Counter::Wrong;
+    if field.is_empty() || !leads_right(field) {
+        return None;
     }
     read_digits(field)
 }
 
-// The first five fields of a line.
-pub(crate) fn read_fields(line: &[u8]) -> RowFields
+// The first five fields of a line; none where one is outside its form.
+pub(crate) fn read_fields(line: &[u8]) -> Option<RowFields>
     ensures { result ≡ row_fields_of (first_fields 5 line.now) }
 {
     if !is_board(fields::first_field(line)) {
-        return RowFields::Wrong;
+        return None;
     }
     let after_board = fields::after_field(line);
     if !is_direction(fields::first_field(after_board)) {
-        return RowFields::Wrong;
+        return None;
     }
     let after_direction = fields::after_field(after_board);
-    let Counter::Number(counter) = read_counter(fields::first_field(after_direction)) else {
-        return RowFields::Wrong;
-    };
+    let counter = read_counter(fields::first_field(after_direction))?;
     let after_counter = fields::after_field(after_direction);
     let number = fields::first_field(after_counter);
     if !is_number(number) {
-        return RowFields::Wrong;
+        return None;
     }
     let value = fields::first_field(fields::after_field(after_counter));
     if !is_value(value) {
-        return RowFields::Wrong;
+        return None;
     }
     let digits = octets::bytes_after(number, 2);
-    RowFields::InForm {
+    Some(RowFields {
         counter,
         page: hex::byte_in(digits, 0),
         low: hex::byte_in(digits, 1),
         value: value.len(),
-    }
+    })
 }

@@ -12,17 +12,11 @@ fn is_hex(digit: u8) -> bool
     octets::is_between(b'A', b'F', digit)
 }
 
+#[tactic(auto, unfolding(tables::specs::Importing::all_hex))]
 pub(crate) fn all_hex(digits: &[u8]) -> bool
     ensures { result ≡ all_hex digits.now }
 {
-    let mut i: usize = 0;
-    while i < digits.len() {
-        if !is_hex(digits[i]) {
-            return false;
-        }
-        i += 1;
-    }
-    true
+    digits.iter().all(|digit| is_hex(*digit))
 }
 
 fn hex_value(digit: u8) -> u8
@@ -61,10 +55,8 @@ pub fn read_hex(bytes: &mut [u8], digits: &[u8]) -> bool
     if !all_hex(digits) {
         return false;
     }
-    let mut i: usize = 0;
-    while i < count {
+    for i in 0..count {
         bytes[i] = byte_in(digits, i);
-        i += 1;
     }
     true
 }

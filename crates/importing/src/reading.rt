@@ -3,12 +3,8 @@ ghost use Rattle.std.specs.Prelude.{◌≡◌};
 ghost use Rattle.tables.specs.Lines.{line_size};
 ghost use Rattle.importing.specs.Reading.{line_after, opened_of, next_row};
 
-use crate::fields::Fields;
 use crate::forms::RowFields;
 use crate::{fields, forms};
-
-// The largest number that a line has.
-const LINE_LIMIT: u64 = 18446744073709551615;
 
 // The bytes of a line's CR LF.
 const END_SIZE: usize = 2;
@@ -53,26 +49,19 @@ pub enum NextRow {
 fn line_size(text: &[u8]) -> usize
     ensures { result ≡ line_size text.now }
 {
-    let mut at: usize = 0;
-    while at < text.len() {
-        if text[at] == b'\r' {
-            if octets::byte_at(text, at + 1) == b'\n' {
-                return at;
-            }
+    for (at, byte) in text.iter().enumerate() {
+        if *byte == b'\r' && octets::byte_at(text, at + 1) == b'\n' {
+            return at;
         }
-        at += 1;
     }
-    at
+    text.len()
 }
 
 // The number of the line after it.
 fn line_after(line: u64) -> u64
     ensures { result ≡ line_after line }
 {
-    if line < LINE_LIMIT {
-        return line + 1;
-    }
-    line
+    line.saturating_add(1)
 }
 
 // The header of a table.
@@ -117,18 +106,20 @@ pub fn next_row(text: &[u8], line: u64) -> NextRow
         return NextRow::Refused { number: 61, line };
     }
     let row = octets::first_bytes(text, size);
-    let Fields::Count(count) = fields::count_fields(row) else {
+    let Some(count) = fields::count_fields(row) else {
         return NextRow::Refused { number: 61, line };
     };
     if count != FIELDS {
         return NextRow::Refused { number: 62, line };
     }
-    let RowFields::InForm {
-        counter,
-        page,
-        low,
-        value,
-    } = forms::read_fields(row)
+    let Some(
+        RowFields {
+            counter,
+            page,
+            low,
+            value,
+        },
+    ) = forms::read_fields(row)
     else {
         return NextRow::Refused { number: 63, line };
     };

@@ -2,6 +2,7 @@
 use Rattle.std.specs.Prelude.{ℕ, ◌+◌, ◌-◌, ◌*◌, ◌%◌, Bool, true, false, cond, not, ◌&&◌, ◌||◌, List, [], ◌∷◌, leb, ltb, eqb, length, drop, get_or}
 use Rattle.std.proofs.Math.Option
 use Rattle.std.proofs.Math.Option.{Option, none, some}
+use Rattle.std.specs.List.{list_all}
 use Rattle.octets.specs.Octets.{between, same}
 use Rattle.framing.specs.Refusal.{Refusal, refusal, first_refusal}
 use Rattle.block.specs.Command.{Report, held, unknown}
@@ -19,8 +20,7 @@ abbrev pub hex_value : ℕ → ℕ
 hex_value c = cond (leb c 0x39) (c - 0x30) (c - 0x37)
 
 unfoldable pub all_hex : List ℕ → Bool
-all_hex [] = true
-all_hex (c ∷ s) = is_hex c && all_hex s
+all_hex digits = list_all is_hex digits
 
 -- pairs of digits as bytes
 unfoldable pub bytes_in : List ℕ → List ℕ
@@ -28,9 +28,11 @@ bytes_in [] = []
 bytes_in (high ∷ []) = []
 bytes_in (high ∷ low ∷ s) = (hex_value high * 16 + hex_value low) ∷ bytes_in s
 
+abbrev pub is_digit : ℕ → Bool
+is_digit c = between 0x30 0x39 c
+
 unfoldable pub all_digits : List ℕ → Bool
-all_digits [] = true
-all_digits (c ∷ s) = between 0x30 0x39 c && all_digits s
+all_digits digits = list_all is_digit digits
 
 abbrev pub number_in : List ℕ → ℕ
 number_in digits = number_from 0 digits

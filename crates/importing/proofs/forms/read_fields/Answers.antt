@@ -3,10 +3,10 @@ use mathlib.Core.Bool.{Bool, true}
 use mathlib.Core.List.{List}
 use mathlib.Core.Path.{◌≡◌, sym, ap, ◌∙◌}
 use lib.ListN.{length, drop, get_or}
+use Rattle.std.specs.Prelude.{Some}
 use Rattle.tables.specs.Importing.{bytes_in, is_board, is_direction, is_counter, is_number, is_value, number_in}
 use Rattle.importing.specs.Forms.{counter_of}
 use Rattle.importing.specs.Splitting.{first_field, after_field}
-use Rattle.importing.specs.declared.forms.RowFields.TheVariants as rows
 use Rattle.importing.proofs.RowForms.{counter_read, counter_wrong, line_1, line_2, line_3, line_4, wrong_board, wrong_direction, wrong_counter, wrong_number, wrong_value, all_right}
 use Rattle.importing.proofs.forms.read_fields.Goals as goal
 
@@ -30,11 +30,12 @@ returns-then-not-is_direction c =
     let line = c.args.line.now in
     sym (wrong_direction line (answered is_direction c.if-not-is_direction.ensures (field_told c.first_field-2.ensures c.after_field-after_board.ensures)))
 
-pub returns-in_default : goal.returns-in_default
-returns-in_default c =
+pub returns-in_err-counter : goal.returns-in_err-counter
+returns-in_err-counter c =
     let line = c.args.line.now in
     let left : c.after_field-after_direction.result.now ≡ line_2 line = follows c.after_field-after_direction.ensures c.after_field-after_board.ensures in
-    sym (wrong_counter line (counter_wrong (first_field (line_2 line)) (c.read_counter.ensures ∙ ap counter_of (field_told c.first_field-3.ensures left)) c.in_default.is))
+    c.from_residual.ensures
+    ∙ sym (wrong_counter line (counter_wrong (first_field (line_2 line)) (c.read_counter.ensures ∙ ap counter_of (field_told c.first_field-3.ensures left)) c.in_err-counter.was))
 
 pub returns-then-not-is_number : goal.returns-then-not-is_number
 returns-then-not-is_number c =
@@ -61,11 +62,16 @@ returns c =
     let number : c.first_field-number.result.now ≡ first_field (line_3 line) = field_told c.first_field-number.ensures left_3 in
     let value : c.first_field-value.result.now ≡ first_field (line_4 line) = field_told c.first_field-value.ensures left_4 in
     let digits : c.bytes_after-digits.result.now ≡ drop 2 (first_field (line_3 line)) = c.bytes_after-digits.ensures ∙ ap (drop 2) number in
-    let read : (is_counter (first_field (line_2 line)) ≡ true) × (c.in-Number.counter ≡ number_in (first_field (line_2 line))) =
-    counter_read (first_field (line_2 line)) (c.read_counter.ensures ∙ ap counter_of (field_told c.first_field-3.ensures left_2)) c.in-Number.is in
+    let read : (is_counter (first_field (line_2 line)) ≡ true) × (c.in_ok-counter.counter ≡ number_in (first_field (line_2 line))) =
+    counter_read (first_field (line_2 line)) (c.read_counter.ensures ∙ ap counter_of (field_told c.first_field-3.ensures left_2)) c.in_ok-counter.was in
     (λ i.
-    rows.InForm (read.1 i) ((c.byte_in.ensures ∙ ap (λ (l : List ℕ). get_or (bytes_in l) 0 0) digits) i)
-    ((c.byte_in-2.ensures ∙ ap (λ (l : List ℕ). get_or (bytes_in l) 1 0) digits) i) (ap length value i))
+    Some
+    record {
+      counter = read.1 i;
+      page = (c.byte_in.ensures ∙ ap (λ (l : List ℕ). get_or (bytes_in l) 0 0) digits) i;
+      low = (c.byte_in-2.ensures ∙ ap (λ (l : List ℕ). get_or (bytes_in l) 1 0) digits) i;
+      value = ap length value i;
+    })
     ∙ sym
     (all_right line (answered is_board c.if-not-is_board.ensures c.first_field.ensures)
     (answered is_direction c.if-not-is_direction.ensures (field_told c.first_field-2.ensures left_1)) read.0

@@ -26,12 +26,10 @@ loop-i-preserved c =
     let buffer = c.args.bytes.now in
     let bytes = bytes_in c.args.digits.now in
     let here : c.loop-i.i ≡ 0 + c.loop-i.i = omega arith in
-    let within : c.loop-i.i < length bytes = omega (arith, bytes_size c.args.digits.now) in (
-      omega arith,
-      (λ i. set (c.loop-i.invariant.1 i) (here i) (c.byte_in.ensures i))
-          ∙ paste-suc buffer 0 bytes c.loop-i.i 0 (omega arith) within
-          ∙ ap (paste buffer 0 bytes) (sym (add-one c.loop-i.i)),
-    )
+    let within : c.loop-i.i < length bytes = omega (arith, bytes_size c.args.digits.now) in
+    (λ i. set (c.loop-i.invariant i) (here i) (c.byte_in.ensures i))
+    ∙ paste-suc buffer 0 bytes c.loop-i.i 0 (omega arith) within
+    ∙ ap (paste buffer 0 bytes) (sym (add-one c.loop-i.i))
 
 pub returns : goal.returns
 returns c =
@@ -42,4 +40,4 @@ returns c =
     let hex : all_hex digits ≡ true = sym c.all_hex.ensures ∙ c.if-not-all_hex.false in
     let even : length digits % 2 ≡ 0 = omega arith in
     let yes : readable buffer digits ≡ true = rw (hex, eq-eqb _ _ even, le-leb (0 + length bytes) (length buffer) (omega arith)) in
-    record { answered = sym yes; held = rw yes (c.loop-i.invariant.1 ∙ rw (all, take-length)) }
+    record { answered = sym yes; held = rw yes (c.loop-i.invariant ∙ rw (all, take-length)) }

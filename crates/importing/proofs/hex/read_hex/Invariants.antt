@@ -1,12 +1,8 @@
 -- The invariant: the first bytes are in their places.
-use Prim.Native.Nat.{◌≤◌, ◌-◌}
-use mathlib.Core.Path.{◌≡◌}
+use Rattle.std.proofs.Common.{◌≡◌}
 use lib.Seq.{paste}
 use Rattle.tables.specs.Importing.{bytes_in}
 use Rattle.importing.proofs.hex.read_hex.Given as goal
 
 abbrev pub invariant-loop-i : goal.invariant-loop-i
-invariant-loop-i l = (l.i ≤ l.count) × (l.bytes ≡ paste l.initial.bytes 0 (bytes_in l.digits) l.i)
-
-abbrev pub decreases-loop-i : goal.decreases-loop-i
-decreases-loop-i l = l.count - l.i
+invariant-loop-i l = l.bytes ≡ paste l.initial.bytes 0 (bytes_in l.digits) l.i

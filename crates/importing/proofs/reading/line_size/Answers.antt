@@ -1,4 +1,4 @@
-use Prim.Native.Nat.{ℕ, ◌+◌, ◌<◌, ◌≤◌}
+use Prim.Native.Nat.{ℕ, ◌+◌, ◌<◌}
 use native.Mathlib.Omega.{arith}
 use mathlib.Core.Bool.{false, ◌&&◌, and-false}
 use mathlib.Core.List.{List}
@@ -29,23 +29,18 @@ module _ (text : List ℕ) (at : ℕ) (h : at < length text) (so_far : line_size
   other_second : (get_or text (at + 1) 0 ≡ 0x0A → ⊥) → GoesOn
   other_second other = goes_on (rw (ne_eqb _ _ other) (and-false (eqb (get_or text at 0) 0x0D)))
 
-all_inside : (text : List ℕ) (at : ℕ) → length text ≤ at → line_size text ≡ at + line_size (drop at text) → line_size text ≡ at
-all_inside text at h so_far =
-    let none_left : line_size (drop at text) ≡ 0 = ap line_size (drop_of_length-le text h) ∙ no_line in
-    omega arith
-
 pub returns-then-byte_at-eq10 : goal.returns-then-byte_at-eq10
 returns-then-byte_at-eq10 c =
-    sym (ended c.args.text.now c.loop-at.at (omega arith) c.loop-at.invariant.1 (omega arith) (sym c.byte_at.ensures ∙ c.if-byte_at-eq10.true))
+    sym (ended c.args.text.now c.loop-at.at (omega arith) c.loop-at.invariant (omega arith) (sym c.byte_at.ensures ∙ c.if-byte_at-eq10.true))
 
 pub loop-at-preserved : goal.loop-at-preserved
 loop-at-preserved c =
     let text = c.args.text.now in
     let at = c.loop-at.at in
-    let here : at < length text = omega arith in (
-      omega arith,
-      grind (arith, common_steps, c.loop-at.invariant.1, other_first text at here c.loop-at.invariant.1, other_second text at here c.loop-at.invariant.1),
-    )
+    let here : at < length text = omega arith in
+    grind (arith, common_steps, c.loop-at.invariant, other_first text at here c.loop-at.invariant, other_second text at here c.loop-at.invariant)
 
 pub returns : goal.returns
-returns c = sym (all_inside c.args.text.now c.loop-at.at (omega arith) c.loop-at.invariant.1)
+returns c =
+    let none_left : line_size (drop c.loop-at.at c.args.text.now) ≡ 0 = ap line_size (drop_of_length-le c.args.text.now (omega arith)) ∙ no_line in
+    omega (arith, none_left)
