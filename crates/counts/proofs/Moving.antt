@@ -1,14 +1,14 @@
 -- Bytes moved to the start of a window, and what is left of it.
 use Prim.Native.Nat.{ℕ, zero, suc, ◌+◌, ◌-◌, ◌<◌, ◌≤◌}
-use native.Mathlib.Numerals.{add-one}
 use native.Mathlib.Omega.{arith}
 use mathlib.Core.Bool.{Bool, true, false}
 use mathlib.Core.List.{List, [], ◌∷◌, ◌++◌}
 use mathlib.Core.Path.{◌≡◌, refl, sym, ap, ◌∙◌}
 use borrow.Author.Tests.{le-leb, lt-leb, leb-true, leb-false}
 use lib.Dec.{leb}
-use lib.ListN.{length, take, drop, get_or, set, length-set, length-drop, drop_of_length-le}
-use lib.Seq.{take-suc, take-suc-set, get_or-drop, drop-set-lt, drop-drop, drop-length}
+use lib.ListN.{length, take, drop, length-drop, drop_of_length-le}
+use lib.Seq.{drop-drop, drop-length}
+use Rattle.std.specs.List.{copy_within}
 use Rattle.octets.specs.Octets.{overwrite}
 use Rattle.captures.specs.Form.{packet_at}
 use Rattle.captures.specs.Reading.{index_in, direction_in, size_in, Reading, left, wrong, item, read}
@@ -19,34 +19,6 @@ use Rattle.counts.specs.Counting.{end_of, left_of, last_of, Counts, window_part,
 use Rattle.counts.specs.Statements.{LeftShort}
 use Rattle.counts.specs.declared.counting.Ending.{Ending}
 use Rattle.counts.specs.declared.counting.Ending.TheVariants.{Left, Wrong}
-
--- the first i bytes are moved, and those after them stand as they stood
-pub record Moved (bytes : List ℕ) (from i : ℕ) (now : List ℕ) : Type 0 where
-  pub as_many : length now ≡ length bytes
-  pub moved : take i now ≡ take i (drop from bytes)
-  pub kept : drop i now ≡ drop i bytes
-
-module _ (bytes : List ℕ) (from i : ℕ) (now : List ℕ) (so_far : Moved bytes from i now) (inside : from + i < length bytes) where
-  value_same : get_or now (from + i) 0 ≡ get_or (drop from bytes) i 0
-  value_same =
-      let turned : from + i ≡ i + from = omega arith in
-      ap (λ (n : ℕ). get_or now n 0) turned ∙ sym (get_or-drop i now from 0)
-      ∙ ap (λ (l : List ℕ). get_or l from 0) so_far.kept
-      ∙ get_or-drop i bytes from 0 ∙ ap (λ (n : ℕ). get_or bytes n 0) (sym turned) ∙ sym (get_or-drop from bytes i 0)
-
-  pub move_one : Moved bytes from (i + 1) (set now i (get_or now (from + i) 0))
-  move_one =
-      let here : i < length now = omega (arith, so_far.as_many) in
-      let there : i < length (drop from bytes) = simp length-drop (omega arith) in
-      record {
-        as_many = length-set now i (get_or now (from + i) 0) ∙ so_far.as_many;
-        moved =
-            rw (add-one, take-suc-set now i (get_or now (from + i) 0) here, take-suc (drop from bytes) i 0 there)
-            (λ k. so_far.moved k ++ (value_same k ∷ []));
-        kept =
-            drop-set-lt (i + 1) now i (get_or now (from + i) 0) (omega arith)
-            ∙ sym (drop-drop 1 i now) ∙ ap (drop 1) so_far.kept ∙ drop-drop 1 i bytes;
-      }
 
 -- what is left of some bytes is their end
 pub record Ends (bytes rest : List ℕ) : Type 0 where
@@ -172,17 +144,16 @@ module _ (end : ℕ) (window : List ℕ) {filled : List ℕ} (front : filled ≡
   none_last h = rw (lt-leb size (length (take end window)) (omega (arith, ap length front)))
 
   pub last_moved :
-      {moved : List ℕ} → size ≤ length filled → moved ≡ overwrite window 0 (take size (drop (length filled - size) window))
+      {moved : List ℕ} → size ≤ length filled → moved ≡ copy_within window (length filled - size) (length filled) 0
       → moved ≡ overwrite window 0 (last_of (Left size) (take end window))
   last_moved h e =
       let within : size ≤ length (take end window) = omega (arith, ap length front) in
-      let count : length (take end window) - (length (take end window) - size) ≡ size = omega arith in
-      let last : drop (length (take end window) - size) (take end window) ≡ last_of (Left size) (take end window) = rw (le-leb size (length (take end window)) within) in
-      e
-      ∙ ap (overwrite window 0)
-      ((λ i. take (sym count i) (drop (length (front i) - size) window))
-      ∙ sym (front_part (length (take end window) - size) end window)
-      ∙ last)
+      let place = length (take end window) - size in
+      let count : length (take end window) - place ≡ length (drop place (take end window)) = sym (length-drop place (take end window)) in
+      rw (le-leb size (length (take end window)) within)
+      (e
+      ∙ (λ i. copy_within window (length (front i) - size) (length (front i)) 0)
+      ∙ (λ i. sym (front_part place end window) i ++ drop (0 + count i) window))
 
 -- what `count` answered of a part, and what was kept
 pub counts_and_keeps :

@@ -21,19 +21,15 @@ pub enum Ending {
 fn place(index: u16, number: u8) -> usize
     ensures { result ≡ index * numbers_per_board + number }
 {
-    octets::u16_to_usize(index) * NUMBERS + octets::to_usize(number)
+    usize::from(index) * NUMBERS + usize::from(number)
 }
 
 // One more at a place, where there is one.
 fn count_one(counts: &mut [u64], at: usize)
     ensures { counts.new ≡ set counts.old at (more (get_or counts.old at 0)) }
 {
-    if counts.len() <= at {
-        return;
-    }
-    let held = counts[at];
-    if held < u64::MAX {
-        counts[at] = held + 1;
+    if at < counts.len() {
+        counts[at] = counts[at].saturating_add(1);
     }
 }
 
@@ -56,8 +52,7 @@ pub fn count(counts: &mut [u64], bytes: &[u8], version: Version, boards: u16) ->
             } => {
                 let number = super::judging::judge(direction, block::part(rest, packet, after));
                 count_one(counts, place(index, number));
-                let next = block::part(rest, after, 0);
-                rest = next;
+                rest = block::part(rest, after, 0);
             }
         }
     }

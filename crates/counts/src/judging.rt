@@ -22,7 +22,7 @@ fn judge_response(packet: &[u8]) -> u8
 fn check_function(function: u8) -> Check
     ensures { result ≡ checked (no_function function) }
 {
-    framing::passed_if(octets::is_between(1, 5, function))
+    framing::passed_if((1..=5).contains(&function))
 }
 
 fn check_block(block: &[u8], function: u8) -> Check

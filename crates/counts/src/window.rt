@@ -1,23 +1,10 @@
 // Counts the records of a capture that is read through a window.
-ghost use Rattle.std.specs.Prelude.{◌≡◌, ◌+◌, ◌≤◌, length, take, drop};
+ghost use Rattle.std.specs.Prelude.{◌≡◌, take};
 ghost use Rattle.octets.specs.Octets.{overwrite};
 ghost use Rattle.counts.specs.Counting.{last_of, CountsWindow};
 
 use super::counting::Ending;
 use captures::Version;
-
-// Moves `count` bytes from a place to the start.
-fn move_to_start(bytes: &mut [u8], from: usize, count: usize)
-    requires { from + count ≤ length bytes.old }
-    ensures { bytes.new ≡ overwrite bytes.old 0 (take count (drop from bytes.old)) }
-{
-    let mut i: usize = 0;
-    while i < count {
-        let at = from + i;
-        bytes[i] = bytes[at];
-        i += 1;
-    }
-}
 
 // Moves the bytes that are left, the last of the first `end`, to the start of a window; nothing where there are not so many.
 pub fn keep(window: &mut [u8], end: usize, ending: Ending)
@@ -30,7 +17,7 @@ pub fn keep(window: &mut [u8], end: usize, ending: Ending)
     if until < left {
         return;
     }
-    move_to_start(window, until - left, left);
+    window.copy_within(until - left..until, 0);
 }
 
 // Counts the records that stand in a window from `start` to `end`, and moves the bytes that are left to its start.

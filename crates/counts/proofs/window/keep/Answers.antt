@@ -8,4 +8,4 @@ returns-then-until-left c = rw c.in-Left.is (none_last c.args.end c.args.window.
 pub returns : goal.returns
 returns c =
     rw c.in-Left.is
-    (last_moved c.args.end c.args.window.now c.first_bytes-until.ensures c.if-until-left.false c.move_to_start.ensures)
+    (last_moved c.args.end c.args.window.now c.first_bytes-until.ensures c.if-until-left.false c.copy_within.ensures.after)

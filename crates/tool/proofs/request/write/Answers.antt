@@ -92,10 +92,10 @@ pub returns-in_default-write : goal.returns-in_default-write
 returns-in_default-write c =
     let call = write_call c.args.buffer.now c.args.id.now c.args.password.now c.args.functions.now c.args.numbers.now c.args.lengths.now c.args.values.now in
     let right : Judged call = judged call (passed _ c.check_buffer.ensures c.in-Passed.is) (passed _ c.check_id.ensures c.in-Passed-check_id.is) (passed _ c.check_password.ensures c.in-Passed-check_password.is) (passed _ c.check_list.ensures c.in-Passed-check_list.is) (passed _ c.check_commands.ensures c.in-Passed-check_commands.is) in
-    not_written_as right c.write_block.ensures c.in-Size.is c.first_function-function.ensures c.write.ensures c.in_default-write.is
+    not_written_as right c.write_block.ensures c.in-Some.is c.first_function-function.ensures c.write.ensures c.in_default-write.is
 
 pub returns : goal.returns
 returns c =
     let call = write_call c.args.buffer.now c.args.id.now c.args.password.now c.args.functions.now c.args.numbers.now c.args.lengths.now c.args.values.now in
     let right : Judged call = judged call (passed _ c.check_buffer.ensures c.in-Passed.is) (passed _ c.check_id.ensures c.in-Passed-check_id.is) (passed _ c.check_password.ensures c.in-Passed-check_password.is) (passed _ c.check_list.ensures c.in-Passed-check_list.is) (passed _ c.check_commands.ensures c.in-Passed-check_commands.is) in
-    written_as right c.write_block.ensures c.in-Size.is c.first_function-function.ensures c.write.ensures c.in-Length.is
+    written_as right c.write_block.ensures c.in-Some.is c.first_function-function.ensures c.write.ensures c.in-Length.is
