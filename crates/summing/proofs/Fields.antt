@@ -2,7 +2,7 @@
 use Prim.Native.Nat.{ℕ, ◌+◌, ◌-◌, ◌≤◌}
 use native.Mathlib.Omega.{arith}
 use mathlib.Core.List.{List, [], ◌∷◌, ◌++◌}
-use mathlib.Core.Path.{◌≡◌}
+use mathlib.Core.Path.{◌≡◌, refl}
 use lib.ListN.{length, take, drop, length-append}
 use Rattle.numerals.specs.Numerals.{decimal, Before}
 use Rattle.numerals.proofs.Decimals.{decimal_short, ending_size, ending_part}
@@ -19,5 +19,5 @@ pub holds_size : {line : List ℕ} {held : PairLine} → Holds line held → lon
 holds_size {held = held} w = ending_size held.start held.bytes w.sized w.held
 
 -- and what `&bytes[start..]` holds
-pub holds_part : {line : List ℕ} {held : PairLine} → Holds line held → take (longest_line - held.start) (drop held.start held.bytes) ≡ line
-holds_part {held = held} w = ending_part held.start held.bytes w.sized w.held
+pub holds_part : {line : List ℕ} {held : PairLine} → Holds line held → take (length held.bytes - held.start) (drop held.start held.bytes) ≡ line
+holds_part {held = held} w = ending_part held.start held.bytes refl w.held

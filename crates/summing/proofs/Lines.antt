@@ -6,11 +6,11 @@ use mathlib.Core.List.{List}
 use mathlib.Core.Path.{◌≡◌, refl, sym, ap, ◌∙◌}
 use borrow.Author.Tests.{le-leb, lt-leb}
 use lib.ListN.{length, length-append}
+use Rattle.std.specs.Prelude.{Some, None}
 use Rattle.octets.specs.Octets.{overwrite, Overwrites}
 use Rattle.octets.proofs.Overwriting.{overwrites_after}
 use Rattle.tool.proofs.Texts.{overwrite_nothing}
 use Rattle.summing.specs.Text.{each, line_at, lines_of, room_after, WritesLines}
-use Rattle.summing.specs.declared.Room.TheVariants as room
 use Rattle.summing.proofs.Each.{each_more, each_grows}
 
 -- the lines of the places before this one
@@ -47,17 +47,17 @@ module _ (space : ℕ) (counts : List ℕ) where
   room_first = record { inside = omega arith; spent = omega arith }
 
   module _ {left place : ℕ} (so_far : RoomLeft space counts left place) where
-    pub room_none : place < length counts → left < length (line_at counts place) → room.NoRoom ≡ room_after space (lines_of counts)
+    pub room_none : place < length counts → left < length (line_at counts place) → None ≡ room_after space (lines_of counts)
     room_none h k = rw (lt-leb (length (lines_of counts)) space (omega (arith, so_far.spent, line_within counts place h)))
 
     pub room_more : place < length counts → length (line_at counts place) ≤ left → RoomLeft space counts (left - length (line_at counts place)) (place + 1)
     room_more h k = record { inside = omega arith; spent = omega (arith, so_far.spent, before_size counts place) }
 
-    pub room_left : length counts ≤ place → room.Left left ≡ room_after space (lines_of counts)
+    pub room_left : length counts ≤ place → Some left ≡ room_after space (lines_of counts)
     room_left h =
         let all = ap length (before_all counts place so_far.inside h) in
         rw (le-leb (length (lines_of counts)) space (omega (arith, so_far.spent)))
-        (ap room.Left (omega (arith, so_far.spent)))
+        (ap Some (omega (arith, so_far.spent)))
 
 -- the lines of the places before are written, and end at `at`
 pub record Written (text counts now : List ℕ) (at place : ℕ) : Type 0 where

@@ -7,21 +7,20 @@ use mathlib.Core.Path.{◌≡◌, refl, ap}
 use borrow.Author.Tests.{leb-true, le-leb}
 use lib.Dec.{leb}
 use lib.ListN.{length, length-append}
+use Rattle.std.specs.Prelude.{Option as RustOption, Some, None}
 use Rattle.octets.specs.Octets.{Overwrites}
 use Rattle.octets.proofs.Overwriting.{overwrites_after}
 use Rattle.tool.specs.Listing.{Shows}
 use Rattle.tool.specs.declared.listing.Listed.TheVariants.{Length}
 use Rattle.summing.specs.Text.{room_after, WritesLines}
-use Rattle.summing.specs.declared.Room.{Room}
-use Rattle.summing.specs.declared.Room.TheVariants as room
 
-left_by : (t : Bool) {answer : Room} (rest : ℕ) {left : ℕ} → answer ≡ cond t (room.Left rest) room.NoRoom → answer ≡ room.Left left → (t ≡ true) × (left ≡ rest)
+left_by : (t : Bool) {answer : RustOption ℕ} (rest : ℕ) {left : ℕ} → answer ≡ cond t (Some rest) None → answer ≡ Some left → (t ≡ true) × (left ≡ rest)
 left_by true rest e h = (refl, cc)
 left_by false rest e h = ((cc), (cc))
 
 -- what the room left tells of a text's length
-module _ (space : ℕ) (text : List ℕ) {answer : Room} (e : answer ≡ room_after space text) where
-  pub text_fits : {left : ℕ} → answer ≡ room.Left left → length text + left ≡ space
+module _ (space : ℕ) (text : List ℕ) {answer : RustOption ℕ} (e : answer ≡ room_after space text) where
+  pub text_fits : {left : ℕ} → answer ≡ Some left → length text + left ≡ space
   text_fits h =
       let told = left_by (leb (length text) space) (space - length text) e h in
       omega (arith, told.1, leb-true (length text) space told.0)

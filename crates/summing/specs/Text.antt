@@ -1,5 +1,5 @@
 -- The summary of a capture: its text.
-use Rattle.std.specs.Prelude.{ℕ, zero, suc, ◌+◌, ◌-◌, ◌*◌, ◌/◌, ◌%◌, ◌≤◌, cond, List, [], ◌∷◌, ◌++◌, ◌≡◌, leb, eqb, length, drop, get_or}
+use Rattle.std.specs.Prelude.{ℕ, zero, suc, ◌+◌, ◌-◌, ◌*◌, ◌/◌, ◌%◌, ◌≤◌, cond, Option as RustOption, Some, None, List, [], ◌∷◌, ◌++◌, ◌≡◌, leb, eqb, length, drop, get_or}
 use Rattle.std.proofs.Math.Option.{Option, none, some}
 use Rattle.octets.specs.Octets.{overwrite}
 use Rattle.numerals.specs.Numerals.{decimal}
@@ -8,8 +8,6 @@ use Rattle.captures.specs.Reading.{records_in, capture_refusal}
 use Rattle.tool.specs.Listing.{line_feed, refused_line}
 use Rattle.counts.specs.Counting.{numbers_per_board, count_of}
 use Rattle.summing.specs.declared.PairLine.{PairLine}
-use Rattle.summing.specs.declared.Room.{Room}
-use Rattle.summing.specs.declared.Room.TheVariants as room
 
 abbrev pub comma : ℕ
 comma = 0x2C
@@ -69,8 +67,8 @@ pub record Holds (line : List ℕ) (answer : PairLine) : Type 0 where
   pub held : drop answer.start answer.bytes ≡ line
 
 -- what is left of some room after a text
-abbrev pub room_after : ℕ → List ℕ → Room
-room_after space text = cond (leb (length text) space) (room.Left (space - length text)) room.NoRoom
+abbrev pub room_after : ℕ → List ℕ → RustOption ℕ
+room_after space text = cond (leb (length text) space) (Some (space - length text)) None
 
 -- lines put into the first bytes of a text
 pub record WritesLines (lines text : List ℕ) (end : ℕ) (after : List ℕ) : Type 0 where

@@ -55,44 +55,25 @@ fn pair_line(index: u64, number: u64, count: u64) -> PairLine
     PairLine { bytes, start }
 }
 
-fn to_u64(number: usize) -> u64
-    ensures { result ≡ number }
-{
-    number as u64
-}
-
 // The line of the pair that is counted at a place.
 fn line_at(place: usize, count: u64) -> PairLine
     ensures { Holds (pair_at place count) result }
 {
     let index = place / counts::counting::NUMBERS;
     let number = place % counts::counting::NUMBERS;
-    pair_line(to_u64(index), to_u64(number), count)
+    pair_line(index as u64, number as u64, count)
 }
 
-// What is left of some room.
-#[derive(Clone, Copy)]
-enum Room {
-    Left(usize),
-    NoRoom,
-}
-
-// What is left after the lines of all counts.
-fn room_after(room: usize, counts: &[u64]) -> Room
+// What is left of some room after the lines of all counts, where they have room.
+fn room_after(room: usize, counts: &[u64]) -> Option<usize>
     ensures { result ≡ room_after room (lines_of counts.now) }
 {
     let mut left = room;
-    let mut place: usize = 0;
-    while place < counts.len() {
-        let line = line_at(place, counts[place]);
-        let size = LONGEST_LINE - line.start;
-        if left < size {
-            return Room::NoRoom;
-        }
-        left -= size;
-        place += 1;
+    for (place, count) in counts.iter().enumerate() {
+        let line = line_at(place, *count);
+        left = left.checked_sub(LONGEST_LINE - line.start)?;
     }
-    Room::Left(left)
+    Some(left)
 }
 
 // Puts the lines of all counts into the first bytes of `text`, and says where they end.
@@ -101,14 +82,10 @@ fn write_lines(text: &mut [u8], counts: &[u64]) -> usize
     ensures { WritesLines (lines_of counts.now) text.old result text.new }
 {
     let mut at: usize = 0;
-    let mut place: usize = 0;
-    while place < counts.len() {
-        let line = line_at(place, counts[place]);
-        let bytes = line.bytes;
-        let start = line.start;
-        octets::overwrite(text, at, &bytes[start..]);
-        at += LONGEST_LINE - start;
-        place += 1;
+    for (place, count) in counts.iter().enumerate() {
+        let line = line_at(place, *count);
+        octets::overwrite(text, at, &line.bytes[line.start..]);
+        at += LONGEST_LINE - line.start;
     }
     at
 }
@@ -130,7 +107,7 @@ fn last_line(refusal: u8) -> Line
 pub fn write(text: &mut [u8], counts: &[u64], refusal: u8) -> Listed
     ensures { Shows (text_of counts.now refusal) text.old result text.new }
 {
-    let Room::Left(left) = room_after(text.len(), counts) else {
+    let Some(left) = room_after(text.len(), counts) else {
         return Listed::NoRoom;
     };
     let line = last_line(refusal);

@@ -1,6 +1,6 @@
+use native.Mathlib.Omega.{arith}
 use Rattle.summing.proofs.Fields.{holds_size, holds_part}
 use Rattle.summing.proofs.Lines.{written_none, written_more, written_all}
-use borrow.Author.Rules.{rules}
 use Rattle.summing.proofs.write_lines.Goals as goal
 
 pub loop-place-init : goal.loop-place-init
@@ -11,7 +11,7 @@ loop-place-preserved c =
     let v = c.loop-place in
     let line = c.line_at-line.ensures in
     rw (holds_size line)
-    (written_more c.args.text.now c.args.counts.now v.invariant c.requires c.loop-place-test.true (rw (holds_part line) at c.overwrite.ensures))
+    (written_more c.args.text.now c.args.counts.now v.invariant c.requires (omega arith) (rw (holds_part line) at c.overwrite.ensures))
 
 pub returns : goal.returns
-returns c = written_all c.args.text.now c.args.counts.now c.loop-place.invariant (search rules)
+returns c = written_all c.args.text.now c.args.counts.now c.loop-place.invariant (omega arith)

@@ -25,5 +25,5 @@ loop-index-preserved c =
     let v = c.loop-index in
     let number = c.judge-number.ensures ∙ ap (judged c.in-Record.direction) c.part.ensures in
     let at = c.place.ensures ∙ ap (λ (n : ℕ). place_of c.in-Record.index n) number in
-    rw (c.part-next.ensures, c.count_one.ensures, at)
+    rw (c.part-rest.ensures, c.count_one.ensures, at)
     (same_on c.args.version c.args.boards v.rest.now (sym c.next_record.ensures ∙ c.in-Record.is) v.invariant)

@@ -9,4 +9,4 @@ pub returns-in-NoRoom : goal.returns-in-NoRoom
 returns-in-NoRoom c = line_over c.loop-end.invariant c.args.text.now _ (omega arith) c.write_next.ensures c.in-NoRoom.is
 
 pub loop-end-preserved : goal.loop-end-preserved
-loop-end-preserved c = rw c.part-after.ensures (line_next c.loop-end.invariant c.write_next.ensures c.in-Until.is).0
+loop-end-preserved c = rw c.part-left.ensures (line_next c.loop-end.invariant c.write_next.ensures c.in-Until.is).0
