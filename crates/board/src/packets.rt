@@ -118,7 +118,7 @@ fn answer(
 {
     let own = board.id;
     let stored = board.password;
-    let size = octets::to_usize(board.size);
+    let size = usize::from(board.size);
     let secret = &stored[..size];
     let judged = judge(&own, secret, board.mode, id, password, function, bytes);
     let Judged::Passed(scope) = judged else {

@@ -135,7 +135,7 @@ pub(crate) fn check_record(board: Board) -> Check
     let Check::Passed = checks::check_id(&id) else {
         return Check::Failed;
     };
-    let size = octets::to_usize(board.size);
+    let size = usize::from(board.size);
     if framing::LONGEST_PASSWORD < size {
         return Check::Failed;
     }

@@ -12,7 +12,7 @@ fn days_of_months(year: u8, months: u8) -> u16
     requires { (year < 100) × (months ≤ 12) }
     ensures { (result ≡ days_of_months (2000 + year) months) × (result ≤ 366) }
 {
-    let days = FIRST_MONTHS[octets::to_usize(months)];
+    let days = FIRST_MONTHS[usize::from(months)];
     if months < 2 {
         return days;
     }
@@ -27,7 +27,7 @@ fn days_of_years(years: u8) -> u16
     requires { years < 100 }
     ensures { (result ≡ days_of_years years) × (result ≤ 36525) }
 {
-    let years = octets::to_u16(years);
+    let years = u16::from(years);
     365 * years + (years + 3) / 4
 }
 
@@ -43,7 +43,7 @@ fn weekday_of(year: u8, month: u8, day: u8) -> u16
     ensures { result ≡ weekday_of year month day }
 {
     let before = days_of_years(year) + days_of_months(year, month - 1);
-    1 + (5 + before + (octets::to_u16(day) - 1)) % 7
+    1 + (5 + before + (u16::from(day) - 1)) % 7
 }
 
 // Whether the day exists in its month and the weekday is its own.
@@ -59,8 +59,8 @@ pub fn is_date(day: u8, weekday: u8, month: u8, year: u8) -> bool
     if day < 1 {
         return false;
     }
-    if days_in(year, month) < octets::to_u16(day) {
+    if days_in(year, month) < u16::from(day) {
         return false;
     }
-    octets::to_u16(weekday) == weekday_of(year, month, day)
+    u16::from(weekday) == weekday_of(year, month, day)
 }

@@ -90,7 +90,7 @@ fn write_records(
             ids: ids_at,
             records,
         } => {
-            let size = framing::ID_SIZE * octets::u16_to_usize(boards);
+            let size = framing::ID_SIZE * usize::from(boards);
             octets::overwrite(
                 ids,
                 0,

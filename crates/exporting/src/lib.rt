@@ -197,7 +197,7 @@ pub fn export(buffer: &mut [u8], capture: &[u8]) -> Exported
             ids,
             records,
         } => {
-            let size = framing::ID_SIZE * octets::u16_to_usize(boards);
+            let size = framing::ID_SIZE * usize::from(boards);
             let board_ids = octets::first_bytes(octets::bytes_after(capture, ids), size);
             let rest = octets::bytes_after(capture, records);
             export_records(buffer, board_ids, rest, version, boards)

@@ -77,7 +77,7 @@ fn next_row(left: &[u8], page: u8) -> NextRow
 fn id_of(ids: &[u8], index: u16) -> &[u8]
     ensures { result.now ≡ id_of ids.now index }
 {
-    let at = framing::ID_SIZE * octets::u16_to_usize(index);
+    let at = framing::ID_SIZE * usize::from(index);
     octets::first_bytes(octets::bytes_after(ids, at), framing::ID_SIZE)
 }
 

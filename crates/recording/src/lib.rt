@@ -107,7 +107,7 @@ pub fn write_record(
 ) -> Written
     ensures { WritesRecord (record_call buffer.old boards (record_of index direction counter packet.now)) result buffer.new }
 {
-    let count = octets::u16_to_usize(boards);
+    let count = usize::from(boards);
     let Check::Passed = captures::check_count(Version::Two, count) else {
         return Written::Refused(52);
     };
@@ -157,7 +157,7 @@ fn check_fields(
     let mut left = packets;
     let mut i: usize = 0;
     while i < indexes.len() {
-        let length = octets::u16_to_usize(lengths[i]);
+        let length = usize::from(lengths[i]);
         let packet = octets::first_bytes(left, length);
         if !captures::in_range(boards, indexes[i], directions[i], packet.len()) {
             return Check::Failed;
@@ -209,7 +209,7 @@ fn put_records(
     let mut left = packets;
     let mut i: usize = 0;
     while i < indexes.len() {
-        let length = octets::u16_to_usize(lengths[i]);
+        let length = usize::from(lengths[i]);
         let packet = octets::first_bytes(left, length);
         put_record(
             buffer,

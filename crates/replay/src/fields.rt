@@ -76,7 +76,7 @@ fn digits(field: &[u8]) -> Decimal {
         if 9 < digit {
             return Decimal::Bad;
         }
-        value = 10 * value + octets::to_usize(digit);
+        value = 10 * value + usize::from(digit);
         if 4294967295 < value {
             return Decimal::Bad;
         }

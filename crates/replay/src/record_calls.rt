@@ -67,7 +67,7 @@ fn put_mode(out: Stdout, text: &mut [u8], at: usize, mode: u8, unit: u8) -> usiz
 fn put_identity(out: Stdout, text: &mut [u8], at: usize, board: Board) -> usize {
     let id = board.id;
     let password = board.password;
-    let size = octets::to_usize(board.size);
+    let size = usize::from(board.size);
     let before_id = output::put(out, text, at, b"record id=");
     let after_id = output::put_field(out, text, before_id, &id);
     let before_password = output::put(out, text, after_id, b" password=");
@@ -170,7 +170,7 @@ fn with_row(board: Board, number: u16, value: &[u8]) -> Board {
     if held.len() == 0 {
         return board;
     }
-    let place = octets::to_usize(held[0]);
+    let place = usize::from(held[0]);
     let parameters = board.parameters;
     let store = parameters.store;
     let mut bytes = store.bytes;

@@ -44,7 +44,7 @@ pub(crate) fn place_of(name: &[u8]) -> Place {
 fn place_at(day: u8, period: u8) -> Place {
     match day {
         1..=7 => match period {
-            1..=4 => Place::At(4 * octets::to_usize(day - 1) + octets::to_usize(period - 1)),
+            1..=4 => Place::At(4 * usize::from(day - 1) + usize::from(period - 1)),
             _ => Place::Nowhere,
         },
         _ => Place::Nowhere,

@@ -117,7 +117,7 @@ pub fn rewrite(buffer: &mut [u8], capture: &[u8]) -> Rewritten
             ids,
             records,
         } => {
-            let size = framing::ID_SIZE * octets::u16_to_usize(boards);
+            let size = framing::ID_SIZE * usize::from(boards);
             let board_ids = octets::first_bytes(octets::bytes_after(capture, ids), size);
             let rest = octets::bytes_after(capture, records);
             let head = captures::IDS_AT + board_ids.len();

@@ -75,7 +75,7 @@ pub fn size_at(index: usize) -> usize
     ensures { result ≡ size_of (set_at index) }
 {
     if index < columns::ROWS {
-        return octets::to_usize(columns::SIZE[index]);
+        return usize::from(columns::SIZE[index]);
     }
     0
 }
@@ -84,7 +84,7 @@ pub fn place_at(index: usize) -> usize
     ensures { result ≡ place_at index }
 {
     if index < columns::ROWS {
-        return octets::to_usize(columns::PLACE[index]);
+        return usize::from(columns::PLACE[index]);
     }
     0
 }
@@ -94,10 +94,10 @@ pub fn range_at(index: usize) -> Range
 {
     if index < columns::ROWS {
         return Range {
-            extra: octets::to_u16(columns::EXTRA[index]),
-            low: octets::to_u16(columns::LOW[index]),
+            extra: u16::from(columns::EXTRA[index]),
+            low: u16::from(columns::LOW[index]),
             high: columns::HIGH[index],
-            step: octets::to_u16(columns::STEP[index]),
+            step: u16::from(columns::STEP[index]),
         };
     }
     Range {

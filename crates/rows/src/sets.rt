@@ -20,8 +20,8 @@ pub enum Next {
 pub fn low_first_number(value: &[u8]) -> u16
     ensures { result ≡ low_first_number value.now }
 {
-    let low = octets::to_u16(octets::byte_at(value, 0));
-    let high = octets::to_u16(octets::byte_at(value, 1));
+    let low = u16::from(octets::byte_at(value, 0));
+    let high = u16::from(octets::byte_at(value, 1));
     low + 256 * high
 }
 
@@ -102,7 +102,7 @@ fn takes(index: usize, temperature: WholeDegrees) -> bool
     requires { (row_at index).quantity ≡ Quantity.WholeDegrees }
     ensures { result ≡ in_range (range_of (set_at index)) temperature.degrees }
 {
-    in_range(range_at(index), octets::to_u16(temperature.degrees))
+    in_range(range_at(index), u16::from(temperature.degrees))
 }
 
 fn is_number(index: usize, value: &[u8]) -> bool

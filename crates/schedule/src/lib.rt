@@ -132,7 +132,7 @@ fn place_of(day: u8, period: u8) -> usize
     requires { has_entry day period ≡ true }
     ensures { (result ≡ place_of day period) × (result < entry_count) }
 {
-    4 * octets::to_usize(day) + octets::to_usize(period) - 5
+    4 * usize::from(day) + usize::from(period) - 5
 }
 
 fn lowest() -> Entry

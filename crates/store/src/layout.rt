@@ -37,7 +37,7 @@ pub fn value_at(bytes: &[u8], index: usize) -> &[u8]
     let place = place_at(index);
     let size = size_at(index);
     if is_text(index) {
-        let length = octets::to_usize(octets::byte_at(bytes, place));
+        let length = usize::from(octets::byte_at(bytes, place));
         let slot = part(bytes, place + 1, size);
         return part(slot, 0, length);
     }
