@@ -12,14 +12,8 @@ fn days_of_months(year: u8, months: u8) -> u16
     requires { (year < 100) × (months ≤ 12) }
     ensures { (result ≡ days_of_months (2000 + year) months) × (result ≤ 366) }
 {
-    let days = FIRST_MONTHS[usize::from(months)];
-    if months < 2 {
-        return days;
-    }
-    if year % 4 != 0 {
-        return days;
-    }
-    days + 1
+    let has_leap_day = 2 <= months && year % 4 == 0;
+    FIRST_MONTHS[usize::from(months)] + u16::from(has_leap_day)
 }
 
 // The days of the first years from 2000 on.
@@ -50,17 +44,8 @@ fn weekday_of(year: u8, month: u8, day: u8) -> u16
 pub fn is_date(day: u8, weekday: u8, month: u8, year: u8) -> bool
     ensures { result ≡ is_date day weekday month year }
 {
-    if 99 < year {
-        return false;
-    }
-    if !octets::is_between(1, 12, month) {
-        return false;
-    }
-    if day < 1 {
-        return false;
-    }
-    if days_in(year, month) < u16::from(day) {
-        return false;
-    }
-    u16::from(weekday) == weekday_of(year, month, day)
+    year <= 99
+        && (1..=12).contains(&month)
+        && (1..=days_in(year, month)).contains(&u16::from(day))
+        && u16::from(weekday) == weekday_of(year, month, day)
 }

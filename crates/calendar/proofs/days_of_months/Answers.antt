@@ -1,19 +1,20 @@
-use native.Mathlib.Nat.{add-zero}
-use borrow.Author.Tests.{le-leb, lt-leb, eq-eqb, ne_eqb}
+use mathlib.Core.Bool.{Bool, true, false, cond}
+use mathlib.Core.Path.{◌≡◌, refl}
+use borrow.Author.Tests.{le-leb, lt-leb}
+use mir.Val.{bool_byte}
 use Rattle.calendar.proofs.Formulas.{months_by_lem}
 use Rattle.calendar.proofs.days_of_months.Goals as goal
+use Rattle.calendar.proofs.days_of_months.Goals.{then-months-ge2, else-months-ge2}
 
-pub returns-then-months-lt2 : goal.returns-then-months-lt2
-returns-then-months-lt2 c =
-    rw c.to_usize.ensures
-    (months_by_lem c.args.year c.args.months _ c.requires.0 c.requires.1 (simp (lt-leb _ _ c.if-months-lt2.true, add-zero)))
-
-pub returns-then-year-ne0 : goal.returns-then-year-ne0
-returns-then-year-ne0 c =
-    rw c.to_usize.ensures
-    (months_by_lem c.args.year c.args.months _ c.requires.0 c.requires.1 (simp (le-leb _ _ c.if-months-lt2.false, ne_eqb _ _ c.if-year-ne0.true, add-zero)))
+one_or_none : (leap : Bool) → cond leap 1 0 ≡ bool_byte leap
+one_or_none true = refl
+one_or_none false = refl
 
 pub returns : goal.returns
 returns c =
-    rw c.to_usize.ensures
-    (months_by_lem c.args.year c.args.months _ c.requires.0 c.requires.1 (simp (le-leb _ _ c.if-months-lt2.false, eq-eqb _ _ c.if-year-ne0.false)))
+    rw (c.from.ensures, c.from-2.ensures)
+    (months_by_lem c.args.year c.args.months _ c.requires.0 c.requires.1
+    (elim c.if-months-ge2.branch [
+      | then-months-ge2 w ↦ simp (w.has_leap_day-is, le-leb _ _ w.if-months-ge2.true, one_or_none)
+      | else-months-ge2 w ↦ simp (w.has_leap_day-is, lt-leb _ _ w.if-months-ge2.false)
+    ]))

@@ -3,4 +3,4 @@ use Rattle.calendar.proofs.Formulas.{years_by_lem}
 use Rattle.calendar.proofs.days_of_years.Goals as goal
 
 pub returns : goal.returns
-returns c = rw c.to_u16-years.ensures (years_by_lem c.args.years c.requires, omega arith)
+returns c = rw c.from-years.ensures (years_by_lem c.args.years c.requires, omega arith)
