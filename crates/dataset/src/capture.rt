@@ -9,11 +9,9 @@ ghost use Rattle.dataset.specs.Captures.{opened_in_numbers, version_numbered, no
 
 use super::Reply;
 use captures::Version;
-use captures::reading::{NextRecord, Opened};
-use captures::writing::Written;
-use counts::counting::Ending;
+use captures::reading::NextRecord;
+use refusals::Refusal;
 use rewriting::Rewritten;
-use tool::listing::Listed;
 
 // Refusal 0: the IDs, 16 bytes each, stand from `ids` on, the records from `records` on. With any other every number is 0.
 #[repr(C)]
@@ -31,20 +29,15 @@ pub fn udgornwy_open_capture(capture: &[u8]) -> OpenedCapture
     ensures { result ≡ opened_in_numbers (opened_of capture.now) }
 {
     match captures::reading::open(capture) {
-        Opened::Capture {
-            version,
-            boards,
-            ids,
-            records,
-        } => OpenedCapture {
+        Ok(head) => OpenedCapture {
             refusal: 0,
-            version: captures::version_number(version),
-            boards,
-            ids,
-            records,
+            version: captures::version_number(head.version),
+            boards: head.boards,
+            ids: head.ids,
+            records: head.records,
         },
-        Opened::Refused(number) => OpenedCapture {
-            refusal: number as u16,
+        Err(refusal) => OpenedCapture {
+            refusal: u16::from(refusal.number()),
             version: 0,
             boards: 0,
             ids: 0,
@@ -53,23 +46,17 @@ pub fn udgornwy_open_capture(capture: &[u8]) -> OpenedCapture
     }
 }
 
-// What a version's number names.
-#[derive(Clone, Copy)]
-pub(crate) enum NumberedVersion {
-    Known(Version),
-    Unknown,
-}
-
-pub(crate) fn version_numbered(number: u16) -> NumberedVersion
+// The version that a number names.
+pub(crate) fn version_numbered(number: u16) -> Option<Version>
     ensures { result ≡ version_numbered number }
 {
     if number == captures::version_number(Version::One) {
-        return NumberedVersion::Known(Version::One);
+        return Some(Version::One);
     }
     if number == captures::version_number(Version::Two) {
-        return NumberedVersion::Known(Version::Two);
+        return Some(Version::Two);
     }
-    NumberedVersion::Unknown
+    None
 }
 
 // Kind 0: a record; 1: no record is left; 2: the start of a record; 3: a field outside its range; 4: no version has this number. With any
@@ -102,7 +89,7 @@ fn no_record(kind: u8) -> CaptureRecord
 pub fn udgornwy_next_record(rest: &[u8], version: u16, boards: u16) -> CaptureRecord
     ensures { result ≡ next_numbered (version_numbered version) boards rest.now }
 {
-    let NumberedVersion::Known(version) = version_numbered(version) else {
+    let Some(version) = version_numbered(version) else {
         return no_record(4);
     };
     match captures::reading::next_record(rest, version, boards) {
@@ -126,13 +113,13 @@ pub fn udgornwy_next_record(rest: &[u8], version: u16, boards: u16) -> CaptureRe
     }
 }
 
-fn written_reply(written: Written) -> Reply
+fn written_reply(written: Result<usize, Refusal>) -> Reply
     ensures { result ≡ written_reply written }
 {
     match written {
-        Written::Length(length) => Reply { refusal: 0, length },
-        Written::Refused(number) => Reply {
-            refusal: number as u16,
+        Ok(length) => Reply { refusal: 0, length },
+        Err(refusal) => Reply {
+            refusal: u16::from(refusal.number()),
             length: 0,
         },
     }
@@ -180,11 +167,11 @@ fn rewritten_reply(rewritten: Rewritten) -> Reply
     match rewritten {
         Rewritten::Whole(length) => Reply { refusal: 0, length },
         Rewritten::Part(length) => Reply {
-            refusal: 53,
+            refusal: u16::from(Refusal::WrongRecord.number()),
             length,
         },
-        Rewritten::Refused(number) => Reply {
-            refusal: number as u16,
+        Rewritten::Refused(refusal) => Reply {
+            refusal: u16::from(refusal.number()),
             length: 0,
         },
     }
@@ -199,13 +186,13 @@ pub fn udgornwy_rewrite_capture(buffer: &mut [u8], capture: &[u8]) -> Reply
 }
 
 // How the records of a window end: at a field outside its range, or with so many bytes that are left.
-pub(crate) fn ending_reply(ending: Ending) -> Reply
+pub(crate) fn ending_reply(ending: Result<usize, Refusal>) -> Reply
     ensures { result ≡ ending_reply ending }
 {
     match ending {
-        Ending::Left(length) => Reply { refusal: 0, length },
-        Ending::Wrong => Reply {
-            refusal: 53,
+        Ok(length) => Reply { refusal: 0, length },
+        Err(refusal) => Reply {
+            refusal: u16::from(refusal.number()),
             length: 0,
         },
     }
@@ -223,9 +210,9 @@ pub fn udgornwy_count_window(
 ) -> Reply
     ensures { CountsNumbered (version_numbered version) boards start end window.old counts.old result counts.new window.new }
 {
-    let NumberedVersion::Known(version) = version_numbered(version) else {
+    let Some(version) = version_numbered(version) else {
         return Reply {
-            refusal: 51,
+            refusal: u16::from(Refusal::UnknownVersion.number()),
             length: 0,
         };
     };
@@ -233,13 +220,10 @@ pub fn udgornwy_count_window(
 }
 
 // Refusal 1: the text does not fit.
-fn shown(listed: Listed) -> Written
+fn shown(listed: Option<usize>) -> Result<usize, Refusal>
     ensures { result ≡ shown_as listed }
 {
-    match listed {
-        Listed::Length(length) => Written::Length(length),
-        Listed::NoRoom => Written::Refused(1),
-    }
+    listed.ok_or(Refusal::ShortBuffer)
 }
 
 // Writes counts, and the line of a refusal where its number is not 0, into the first bytes of `text`, as `summing::write`.

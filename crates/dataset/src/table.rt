@@ -1,25 +1,24 @@
 // Tables written of captures and read, with answers in numbers.
 ghost use Rattle.std.specs.Prelude.{◌≡◌, cond};
 ghost use Rattle.importing.specs.Reading.{opened_of, next_row};
+ghost use Rattle.refusals.specs.Refusals.{number_of};
 ghost use Rattle.dataset.specs.Reply.{reply_with};
 ghost use Rattle.dataset.specs.Captures.{version_numbered};
 ghost use Rattle.dataset.specs.Tables.{WritesTableHeader, ExportsInNumbers, no_rows, ExportsNumbered, opened_table, no_row, row_in_numbers, ReadsHexInNumbers};
 
-use super::capture::NumberedVersion;
 use super::{Reply, capture};
-use exporting::Exported;
-use exporting::window::Rows;
-use importing::reading::{NextRow, Opened};
+use importing::reading::NextRow;
+use refusals::{Refusal, number_or_zero};
 
 // Bytes that were put, or this refusal.
-fn put_reply(done: bool, length: usize, number: u16) -> Reply
-    ensures { result ≡ cond done (reply_with 0 length) (reply_with number 0) }
+fn put_reply(done: bool, length: usize, refusal: Refusal) -> Reply
+    ensures { result ≡ cond done (reply_with 0 length) (reply_with (number_of refusal) 0) }
 {
     if done {
         return Reply { refusal: 0, length };
     }
     Reply {
-        refusal: number,
+        refusal: u16::from(refusal.number()),
         length: 0,
     }
 }
@@ -29,7 +28,7 @@ pub fn udgornwy_table_header(buffer: &mut [u8]) -> Reply
     ensures { WritesTableHeader buffer.old result buffer.new }
 {
     let done = octets::overwrite(buffer, 0, &tables::header());
-    put_reply(done, tables::HEADER_SIZE, 54)
+    put_reply(done, tables::HEADER_SIZE, Refusal::NoSpace)
 }
 
 // Refusal 0: the table's length, how many responses are refused, and the number of the capture's refusal, 0 for none. Refusal 54: the
@@ -48,18 +47,14 @@ pub fn udgornwy_export_table(buffer: &mut [u8], capture: &[u8]) -> ExportedTable
     ensures { ExportsInNumbers buffer.old capture.now result buffer.new }
 {
     match exporting::export(buffer, capture) {
-        Exported::Table {
-            length,
-            refused,
-            capture,
-        } => ExportedTable {
+        Some(exported) => ExportedTable {
             refusal: 0,
-            capture: capture as u16,
-            length,
-            refused,
+            capture: u16::from(number_or_zero(exported.capture)),
+            length: exported.length,
+            refused: exported.refused,
         },
-        Exported::NoRoom => ExportedTable {
-            refusal: 54,
+        None => ExportedTable {
+            refusal: u16::from(Refusal::NoSpace.number()),
             capture: 0,
             length: 0,
             refused: 0,
@@ -79,11 +74,11 @@ pub struct ExportedRows {
     pub left: usize,
 }
 
-fn no_rows(number: u16) -> ExportedRows
-    ensures { result ≡ no_rows number }
+fn no_rows(refusal: Refusal) -> ExportedRows
+    ensures { result ≡ no_rows (number_of refusal) }
 {
     ExportedRows {
-        refusal: number,
+        refusal: u16::from(refusal.number()),
         ending: 0,
         length: 0,
         refused: 0,
@@ -105,27 +100,21 @@ pub fn udgornwy_export_window(
 ) -> ExportedRows
     ensures { ExportsNumbered (version_numbered version) text.old window.old start end ids.now boards refused result text.new window.new }
 {
-    let NumberedVersion::Known(version) = capture::version_numbered(version) else {
-        return no_rows(51);
+    let Some(version) = capture::version_numbered(version) else {
+        return no_rows(Refusal::UnknownVersion);
     };
-    match exporting::window::export_window(
-        text, window, start, end, ids, version, boards, refused,
-    ) {
-        Rows::Rows {
-            length,
-            refused,
-            ending,
-        } => {
-            let ended = capture::ending_reply(ending);
-            ExportedRows {
-                refusal: 0,
-                ending: ended.refusal,
-                length,
-                refused,
-                left: ended.length,
-            }
-        }
-        Rows::NoRoom => no_rows(54),
+    let exported =
+        exporting::window::export_window(text, window, start, end, ids, version, boards, refused);
+    let Some(rows) = exported else {
+        return no_rows(Refusal::NoSpace);
+    };
+    let ended = capture::ending_reply(rows.ending);
+    ExportedRows {
+        refusal: 0,
+        ending: ended.refusal,
+        length: rows.length,
+        refused: rows.refused,
+        left: ended.length,
     }
 }
 
@@ -144,14 +133,14 @@ pub fn udgornwy_open_table(text: &[u8]) -> OpenedTable
     ensures { result ≡ opened_table (opened_of text.now) }
 {
     match importing::reading::open(text) {
-        Opened::Table { rest, line } => OpenedTable {
+        Ok(table) => OpenedTable {
             refusal: 0,
-            line,
-            rest,
+            line: table.line,
+            rest: table.rest,
         },
-        Opened::Refused { number, line } => OpenedTable {
-            refusal: number as u16,
-            line,
+        Err(refused) => OpenedTable {
+            refusal: u16::from(refused.refusal.number()),
+            line: refused.line,
             rest: 0,
         },
     }
@@ -218,7 +207,9 @@ pub fn udgornwy_next_row(text: &[u8], line: u64) -> TableRow
             rest,
         },
         NextRow::End => no_row(1, 0, 0),
-        NextRow::Refused { number, line } => no_row(2, number as u16, line),
+        NextRow::Refused(refused) => {
+            no_row(2, u16::from(refused.refusal.number()), refused.line)
+        }
     }
 }
 
@@ -228,5 +219,5 @@ pub fn udgornwy_read_hex(bytes: &mut [u8], digits: &[u8]) -> Reply
     ensures { ReadsHexInNumbers bytes.old digits.now result bytes.new }
 {
     let done = importing::hex::read_hex(bytes, digits);
-    put_reply(done, digits.len() / 2, 63)
+    put_reply(done, digits.len() / 2, Refusal::BadField)
 }

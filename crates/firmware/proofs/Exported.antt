@@ -15,7 +15,9 @@ use Rattle.model.specs.declared.Answered.{Answered}
 use Rattle.model.specs.declared.Board.{Board}
 use Rattle.model.specs.declared.Stepped.{Stepped}
 use Rattle.model.proofs.Traced.{trace_noninterference}
-use Rattle.firmware.specs.Controller.{reply_of, Replies, refusal_number, set_up_result}
+use Rattle.refusals.specs.Refusals.{number_in}
+use Rattle.refusals.specs.declared.Refusal.{Refusal}
+use Rattle.firmware.specs.Controller.{reply_of, Replies, set_up_result}
 use Rattle.firmware.specs.Exported.{ExportsFollow, OwnCalled, packet_called, measure_called, Run, ended, called_both, called_first, called_second, own_call, calls_of, ends_of, Told, replied, numbered, own_told, told_of, AlikeCalled, DiscoverableCalled, ExportedNoninterference}
 use Rattle.firmware.specs.declared.controller.CallResult.{CallResult}
 use Rattle.firmware.specs.declared.Reply.{Reply}
@@ -24,7 +26,7 @@ use Rattle.firmware.specs.declared.Reply.{Reply}
 abbrev step_of : Call → Board → Stepped
 step_of c next = record { board = next; answer = (step c).answer }
 
-abbrev answered_of : CallResult → Option ℕ → Answered
+abbrev answered_of : CallResult → Option Refusal → Answered
 answered_of kept refusal = record { board = kept.board; verdict = verdict_of refusal }
 
 step_made : {c : Call} {next : Board} {reply : Reply} {after : List ℕ} → Replies c next reply after → Steps c (step_of c next) after
@@ -91,7 +93,7 @@ same_ends (called_second own later) = same_ends later
 -- what is told is what the board's functions returned, in numbers
 in_numbers : Returned → Told
 in_numbers (model.replied reply) = replied (reply_of reply.answer) reply.buffer
-in_numbers (judged verdict) = numbered (refusal_number verdict)
+in_numbers (judged verdict) = numbered (number_in verdict)
 
 own_told_lem : {board next : Board} (own : OwnCalled board next) → own_told own ≡ in_numbers (own_returned (own_made own))
 unfolding own_made in_numbers

@@ -1,20 +1,20 @@
 -- The board's answers in numbers, for callers in other languages.
-use Rattle.std.specs.Prelude.{ℕ, List, ◌≡◌}
+use Rattle.std.specs.Prelude.{ℕ, List, ◌≡◌, Result}
+use Rattle.refusals.specs.Refusals.{number_of, number_in}
+use Rattle.refusals.specs.declared.Refusal.{Refusal as RefusalOf}
 use Rattle.model.specs.Measurement.{MeasureCall, measure_refusal, measured_board}
 use Rattle.model.specs.Record.{SetUp, set_up_board, set_up_refusal, verdict_of}
 use Rattle.model.specs.Step.{Call, step}
 use Rattle.model.specs.declared.Answer.{Answer}
 use Rattle.model.specs.declared.Answer.TheVariants.{Refused, Silence, Response}
 use Rattle.model.specs.declared.Board.{Board}
-use Rattle.model.specs.declared.Verdict.{Verdict}
-use Rattle.model.specs.declared.Verdict.TheVariants as verdict
 use Rattle.firmware.specs.Reply.{reply_with}
 use Rattle.firmware.specs.declared.controller.CallResult.{CallResult}
 use Rattle.firmware.specs.declared.Reply.{Reply}
 
 -- refusal 0: not refused; length 0 is then silence
 abbrev pub reply_of : Answer → Reply
-reply_of (Refused number) = reply_with number 0
+reply_of (Refused refusal) = reply_with (number_of refusal) 0
 reply_of Silence = reply_with 0 0
 reply_of (Response length) = reply_with 0 length
 
@@ -24,13 +24,9 @@ pub record Replies (c : Call) (next : Board) (reply : Reply) (after : List ℕ) 
   pub answer : reply ≡ reply_of (step c).answer
   pub buffer : after ≡ (step c).buffer
 
--- 0: not refused
-abbrev pub refusal_number : Verdict → ℕ
-refusal_number verdict.Accepted = 0
-refusal_number (verdict.Refused number) = number
-
-abbrev pub result_of : Board → Verdict → CallResult
-result_of board verdict = record { board = board; refusal = refusal_number verdict }
+-- refusal 0: not refused
+abbrev pub result_of : Board → Result (Unit {0}) RefusalOf → CallResult
+result_of board verdict = record { board = board; refusal = number_in verdict }
 
 abbrev pub set_up_result : SetUp → CallResult
 set_up_result given = result_of (set_up_board given) (verdict_of (set_up_refusal given))

@@ -3,12 +3,11 @@ ghost use Rattle.std.specs.Prelude.{◌≡◌};
 ghost use Rattle.firmware.specs.Client.{WritesInNumbers, ListsInNumbers};
 ghost use Rattle.tool.specs.Listing.{listing};
 ghost use Rattle.tool.specs.Request.{write_call};
-ghost use Rattle.tool.specs.Response.{read_call, response_of, refused_number};
+ghost use Rattle.refusals.specs.Refusals.{number_in};
+ghost use Rattle.tool.specs.Response.{read_call, response_of};
 
 use super::Reply;
-use tool::listing::Listed;
-use tool::request::Written;
-use tool::response::Response;
+use refusals::number_in;
 
 // Writes the request packet of a command list into the first bytes of `buffer`, as `request::write`.
 pub fn udgornwy_write(
@@ -23,9 +22,9 @@ pub fn udgornwy_write(
     ensures { WritesInNumbers (write_call buffer.old id.now password.now functions.now numbers.now lengths.now values.now) result buffer.new }
 {
     match tool::request::write(buffer, id, password, functions, numbers, lengths, values) {
-        Written::Length(length) => Reply { refusal: 0, length },
-        Written::Refused(number) => Reply {
-            refusal: number as u16,
+        Ok(length) => Reply { refusal: 0, length },
+        Err(refusal) => Reply {
+            refusal: u16::from(refusal.number()),
             length: 0,
         },
     }
@@ -33,12 +32,9 @@ pub fn udgornwy_write(
 
 // Judges a response to a request that asked for `id` and sent `password`: the number of the refusal, 0 where there is none.
 pub fn udgornwy_read(packet: &[u8], id: &[u8], password: &[u8]) -> u16
-    ensures { result ≡ refused_number (response_of (read_call packet.now id.now password.now)) }
+    ensures { result ≡ number_in (response_of (read_call packet.now id.now password.now)) }
 {
-    match tool::response::read(packet, id, password) {
-        Response::Accepted { block: _, end: _ } => 0,
-        Response::Refused(number) => number as u16,
-    }
+    u16::from(number_in(tool::response::read(packet, id, password)))
 }
 
 // Lists a response in the first bytes of `text`. Refusal 1: the listing does not fit.
@@ -46,8 +42,8 @@ pub fn udgornwy_list(text: &mut [u8], packet: &[u8]) -> Reply
     ensures { ListsInNumbers (listing packet.now) text.old result text.new }
 {
     match tool::listing::list(text, packet) {
-        Listed::Length(length) => Reply { refusal: 0, length },
-        Listed::NoRoom => Reply {
+        Some(length) => Reply { refusal: 0, length },
+        None => Reply {
             refusal: 1,
             length: 0,
         },

@@ -3,10 +3,11 @@ ghost use Rattle.std.specs.Prelude.{◌≡◌};
 ghost use Rattle.model.specs.Measurement.{measure_call};
 ghost use Rattle.model.specs.Record.{set_up};
 ghost use Rattle.model.specs.Step.{call};
-ghost use Rattle.firmware.specs.Controller.{Replies, reply_of, refusal_number, result_of, set_up_result, measure_result};
+ghost use Rattle.firmware.specs.Controller.{Replies, reply_of, result_of, set_up_result, measure_result};
 
 use super::Reply;
-use model::{Answer, Answered, Board, Verdict};
+use model::{Answer, Answered, Board};
+use refusals::number_in;
 
 #[derive(Clone, Copy)]
 struct Replied {
@@ -18,8 +19,8 @@ fn reply_of(answer: Answer) -> Reply
     ensures { result ≡ reply_of answer }
 {
     match answer {
-        Answer::Refused(number) => Reply {
-            refusal: number as u16,
+        Answer::Refused(refusal) => Reply {
+            refusal: u16::from(refusal.number()),
             length: 0,
         },
         Answer::Silence => Reply {
@@ -60,23 +61,12 @@ pub struct CallResult {
     pub refusal: u16,
 }
 
-fn refusal_number(verdict: Verdict) -> u16
-    ensures { result ≡ refusal_number verdict }
-{
-    match verdict {
-        Verdict::Accepted => 0,
-        Verdict::Refused(number) => number as u16,
-    }
-}
-
 fn in_numbers(answered: Answered) -> CallResult
     ensures { result ≡ result_of answered.board answered.verdict }
 {
-    let board = answered.board;
-    let verdict = answered.verdict;
     CallResult {
-        board,
-        refusal: refusal_number(verdict),
+        board: answered.board,
+        refusal: u16::from(number_in(answered.verdict)),
     }
 }
 

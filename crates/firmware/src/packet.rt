@@ -3,7 +3,7 @@ ghost use Rattle.std.specs.Prelude.{◌≡◌};
 ghost use Rattle.framing.specs.Packet.{parsed_of};
 ghost use Rattle.firmware.specs.Packet.{parts_of};
 
-use framing::{Parsed, Places};
+use framing::Places;
 
 // Refusal 0: the parts stand at these places. With any other every place is 0.
 #[repr(C)]
@@ -18,9 +18,9 @@ pub fn udgornwy_parse(packet: &[u8]) -> Parts
     ensures { result ≡ parts_of (parsed_of packet.now) }
 {
     match framing::read(packet) {
-        Parsed::Frame(places) => Parts { refusal: 0, places },
-        Parsed::Refused(number) => Parts {
-            refusal: number as u16,
+        Ok(places) => Parts { refusal: 0, places },
+        Err(refusal) => Parts {
+            refusal: u16::from(refusal.number()),
             places: Places {
                 id: 0,
                 password: 0,
