@@ -1,24 +1,21 @@
 -- What the answers of `read` and `write` tell of a packet and its parts.
-use Rattle.std.proofs.Common.{◌≡◌, ℕ, ◌+◌, ◌-◌, Bool, true, false, cond, List, length, get_or, take, drop, sym, refl, ap, ◌∙◌, arith}
-use mathlib.Core.Option.{Option, none, some}
+use Rattle.std.proofs.Common.{◌≡◌, ℕ, ◌+◌, ◌-◌, Bool, true, false, cond, List, Option, None, Some, Result, Ok, Err, length, get_or, take, drop, refl, ap, ◌∙◌, arith}
+use mathlib.Core.Option.{Option as Choice, none, some}
 use Rattle.framing.specs.Frame.{Frame, packet_of}
-use Rattle.framing.specs.Packet.{packet_refusal, places_of, frame_of, parsed_as, refusal_number, writable, Writes}
+use Rattle.framing.specs.Packet.{packet_refusal, places_of, frame_of, parsed_as, writable, Writes}
 use Rattle.framing.specs.Statements.{Within, Stands, ReadConcludes}
 use Rattle.framing.specs.declared.Places.{Places}
-use Rattle.framing.specs.declared.Parsed.{Parsed}
-use Rattle.framing.specs.declared.Parsed.TheVariants as read
-use Rattle.framing.specs.declared.Written.{Written}
-use Rattle.framing.specs.declared.Written.TheVariants.{Length, NoPacket}
+use Rattle.refusals.specs.declared.Refusal.{Refusal}
 use Rattle.framing.proofs.Checks.{within_lengths, within_sizes}
 use Rattle.framing.proofs.WritesRead.{accepted}
 
 -- the refusal, or the places
-refused_as : (refusal : Option ℕ) (places : Places) {parsed : Parsed} {number : ℕ} → parsed ≡ parsed_as refusal places → parsed ≡ read.Refused number → refusal ≡ some (refusal_number parsed)
-refused_as (some n) places e h = ap (λ (p : Parsed). some (refusal_number p)) (sym e)
+refused_as : (rule : Choice Refusal) (places : Places) {parsed : Result Places Refusal} {refusal : Refusal} → parsed ≡ parsed_as rule places → parsed ≡ Err refusal → rule ≡ some refusal
+refused_as (some first) places e h = let same : first ≡ _ = cc in ap some same
 refused_as none places e h = cc
 
-accepted_as : (refusal : Option ℕ) {given places : Places} {parsed : Parsed} → parsed ≡ parsed_as refusal given → parsed ≡ read.Frame places → (refusal ≡ none) × (places ≡ given)
-accepted_as (some n) e h = ((cc), (cc))
+accepted_as : (rule : Choice Refusal) {given places : Places} {parsed : Result Places Refusal} → parsed ≡ parsed_as rule given → parsed ≡ Ok places → (rule ≡ none) × (places ≡ given)
+accepted_as (some first) e h = ((cc), (cc))
 accepted_as none e h = (refl, cc)
 
 -- a packet that is read keeps its parts within its bytes
@@ -52,19 +49,19 @@ module _ {packet : List ℕ} {places : Places} (s : Stands packet places) where
   block_found = rw s.placed
 
 -- whether the parts made a packet that fits, and its length
-written_by : (yes : Bool) {answer : Written} {size length : ℕ} → answer ≡ cond yes (Length size) NoPacket → answer ≡ Length length → (yes ≡ true) × (length ≡ size)
+written_by : (yes : Bool) {answer : Option ℕ} {size length : ℕ} → answer ≡ cond yes (Some size) None → answer ≡ Some length → (yes ≡ true) × (length ≡ size)
 written_by true e h = (refl, cc)
 written_by false e h = ((cc), (cc))
 
-not_written_by : (yes : Bool) {answer : Written} (size : ℕ) → answer ≡ cond yes (Length size) NoPacket → answer ≡ NoPacket → yes ≡ false
+not_written_by : (yes : Bool) {answer : Option ℕ} (size : ℕ) → answer ≡ cond yes (Some size) None → answer ≡ None → yes ≡ false
 not_written_by true size e h = cc
 not_written_by false size e h = refl
 
-module _ {f : Frame} {buffer after : List ℕ} {answer : Written} (writes : Writes f buffer answer after) where
-  pub frame_written : {written : ℕ} → answer ≡ Length written → (writable f buffer ≡ true) × (written ≡ length (packet_of f))
+module _ {f : Frame} {buffer after : List ℕ} {answer : Option ℕ} (writes : Writes f buffer answer after) where
+  pub frame_written : {written : ℕ} → answer ≡ Some written → (writable f buffer ≡ true) × (written ≡ length (packet_of f))
   frame_written h = written_by (writable f buffer) writes.answered h
 
-  pub frame_not_written : answer ≡ NoPacket → (writable f buffer ≡ false) × (after ≡ buffer)
+  pub frame_not_written : answer ≡ None → (writable f buffer ≡ false) × (after ≡ buffer)
   frame_not_written h =
       let no : writable f buffer ≡ false = not_written_by (writable f buffer) _ writes.answered h in
       (no, writes.held ∙ rw no)
