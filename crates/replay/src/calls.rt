@@ -1,116 +1,85 @@
 // The call of a line.
-use crate::{board_calls, capture_calls, output, record_calls, slices, table_calls, tool_calls};
+use crate::fields::Fault;
+use crate::{board_calls, capture_calls, output, record_calls, table_calls, tool_calls};
 use model::Board;
-use std::io::Stdout;
+use std::alloc::Global;
+use std::io;
+use std::io::Write;
+use std::str;
 
-// The board, and where the text of the answers ends.
-#[derive(Clone, Copy)]
-pub(crate) struct Step {
-    pub board: Board,
-    pub at: usize,
-}
-
-// A line that is none of the forms changes nothing.
-pub(crate) fn bad(step: Step, out: Stdout, text: &mut [u8]) -> Step {
-    let board = step.board;
-    Step {
-        board,
-        at: output::put_bad(out, text, step.at),
-    }
-}
-
-// Makes the call with a name; `left` has its fields.
-fn call(step: Step, name: &[u8], left: &[u8], out: Stdout, text: &mut [u8]) -> Step {
-    if octets::equal(name, b"setup") {
-        return board_calls::set_up(step, left, out, text);
-    }
-    if octets::equal(name, b"packet") {
-        return board_calls::packet(step, left, out, text);
-    }
-    if octets::equal(name, b"measure") {
-        return board_calls::measure(step, left, out, text);
-    }
-    if octets::equal(name, b"poke") {
-        return record_calls::poke(step, left, out, text);
-    }
-    let board = step.board;
-    Step {
-        board,
-        at: inspect(board, name, left, out, text, step.at),
-    }
-}
-
-// Makes a call that leaves the board alone.
-fn inspect(
-    board: Board,
-    name: &[u8],
-    left: &[u8],
-    out: Stdout,
-    text: &mut [u8],
-    at: usize,
-) -> usize {
-    if octets::equal(name, b"record") {
-        return record_calls::show(board, left, out, text, at);
-    }
-    if octets::equal(name, b"write") {
-        return tool_calls::write(left, out, text, at);
-    }
-    if octets::equal(name, b"read") {
-        return tool_calls::read(left, out, text, at);
-    }
-    if octets::equal(name, b"list") {
-        return tool_calls::list(left, out, text, at);
-    }
-    call_on_capture(name, left, out, text, at)
-}
-
-// Makes a call on a capture or a table.
-fn call_on_capture(name: &[u8], left: &[u8], out: Stdout, text: &mut [u8], at: usize) -> usize {
-    if octets::equal(name, b"capread") {
-        return capture_calls::read(left, out, text, at);
-    }
-    if octets::equal(name, b"capwrite") {
-        return capture_calls::write(left, out, text, at);
-    }
-    if octets::equal(name, b"summary") {
-        return capture_calls::summary(left, out, text, at);
-    }
-    if octets::equal(name, b"rewrite") {
-        return capture_calls::rewrite(left, out, text, at);
-    }
-    if octets::equal(name, b"export") {
-        return capture_calls::export(left, out, text, at);
-    }
-    if octets::equal(name, b"import") {
-        return table_calls::import(left, out, text, at);
-    }
-    output::put_bad(out, text, at)
-}
+// The most characters of a line.
+const LONGEST: usize = 65536;
 
 // Empty lines and comments are passed over.
 fn is_passed_over(line: &[u8]) -> bool {
-    if line.len() == 0 {
-        return true;
-    }
-    line[0] == b'#'
+    line.is_empty() || line[0] == b'#'
 }
 
-// Answers a line.
-pub(crate) fn answer(step: Step, line: &[u8], out: Stdout, text: &mut [u8]) -> Step {
+// Makes the call with a name, on these fields.
+fn call<W: Write + Drop>(
+    board: &mut Board,
+    fields: &[&str],
+    alloc: Global,
+    out: &mut W,
+) -> Result<(), Fault> {
+    match fields {
+        ["setup", id, password, mode] => board_calls::set_up(board, id, password, mode, None, alloc, out),
+        ["setup", id, password, mode, unit] => board_calls::set_up(board, id, password, mode, Some(*unit), alloc, out),
+        ["packet", length, packet] => board_calls::packet(board, length, packet, alloc, out),
+        ["measure", number, value] => board_calls::measure(board, number, value, alloc, out),
+        ["poke", name, value] => record_calls::poke(board, name, value, alloc, out),
+        ["record"] => record_calls::show(board, out),
+        ["write", length, id, password, commands @ ..] => tool_calls::write(length, id, password, commands, alloc, out),
+        ["read", id, password, packet] => tool_calls::read(id, password, packet, alloc, out),
+        ["list", packet] => tool_calls::list(packet, alloc, out),
+        ["import", table] => table_calls::import(table, alloc, out),
+        _ => call_on_capture(fields, alloc, out),
+    }
+}
+
+// Makes a call on a capture.
+fn call_on_capture<W: Write + Drop>(fields: &[&str], alloc: Global, out: &mut W) -> Result<(), Fault> {
+    match fields {
+        ["capread", capture] => capture_calls::read(capture, alloc, out),
+        ["capwrite", room, ids, records @ ..] => capture_calls::write(room, ids, records, alloc, out),
+        ["summary", capture] => capture_calls::summary(capture, alloc, out),
+        ["rewrite", room, capture] => capture_calls::rewrite(room, capture, alloc, out),
+        ["export", room, capture] => table_calls::export(room, capture, alloc, out),
+        _ => Err(Fault::BadLine),
+    }
+}
+
+// Makes the call of a line.
+fn call_line<W: Write + Drop>(
+    board: &mut Board,
+    line: &[u8],
+    alloc: Global,
+    out: &mut W,
+) -> Result<(), Fault> {
+    if LONGEST < line.len() {
+        return Err(Fault::BadLine);
+    }
+    let Ok(text) = str::from_utf8(line) else {
+        return Err(Fault::BadLine);
+    };
+    let fields: Vec<&str> = text.split(' ').collect(alloc)?;
+    call(board, &fields, alloc, out)
+}
+
+// Answers a line. One that is none of the forms changes nothing.
+pub(crate) fn answer<W: Write + Drop>(
+    board: &mut Board,
+    line: &[u8],
+    alloc: Global,
+    out: &mut W,
+) -> io::Result<()> {
     if is_passed_over(line) {
-        return step;
+        return Ok(());
     }
-    let end = slices::place_of(line, 0, b' ');
-    let done = call(
-        step,
-        octets::first_bytes(line, end),
-        octets::bytes_after(line, end),
-        out,
-        text,
-    );
-    let board = done.board;
-    Step {
-        board,
-        at: output::put(out, text, done.at, b"\n"),
+    match call_line(board, line, alloc, out) {
+        Ok(()) => {}
+        Err(Fault::BadLine) => output::put_bad(out)?,
+        Err(Fault::Io(error)) => return Err(error),
     }
+    out.write_all(b"\n")
 }

@@ -4,21 +4,26 @@
 mod board_calls;
 mod calls;
 mod capture_calls;
-mod capture_lists;
 mod fields;
 mod hex;
-mod lines;
 mod output;
 mod record_calls;
 mod schedule_entries;
-mod slices;
 mod table_calls;
 mod tool_calls;
 
-fn main(rt: HostRuntime) {
-    // Room for a line and its end.
-    let mut input = [0u8; lines::LONGEST + 1];
-    let mut text = [0u8; output::ROOM];
-    let mut stdin = rt.stdin();
-    lines::replay(&mut stdin, &mut input, rt.stdout(), &mut text);
+use std::io;
+use std::io::{BufRead, BufReader, LineWriter};
+
+// Each line is written out as soon as it is whole, so that who waits for an answer gets it.
+fn main(rt: HostRuntime) -> io::Result<()> {
+    let alloc = rt.alloc();
+    let lines = BufReader::new(alloc, rt.stdin())?.split(alloc, b'\n');
+    let mut out = LineWriter::new(alloc, rt.stdout())?;
+    // A refused set-up gives the board before the first call.
+    let mut board = board::set_up(b"", b"", 0, rows::MICRA).board;
+    for line in lines {
+        calls::answer(&mut board, &line?, alloc, &mut out)?;
+    }
+    Ok(())
 }

@@ -1,149 +1,67 @@
 // The calls that show the record and write it with no check.
-use crate::calls::Step;
-use crate::fields::Number;
-use crate::hex::{Byte, Decoded};
-use crate::schedule_entries::Place;
-use crate::{calls, fields, hex, output, schedule_entries, slices};
-use model::{Board, Parameters};
-use schedule::Schedule;
-use std::io::Stdout;
-use store::{Found, Store};
+use crate::fields::Fault;
+use crate::hex::Field;
+use crate::{fields, hex, output, schedule_entries};
+use model::Board;
+use std::alloc::Global;
+use std::io;
+use std::io::Write;
+use store::Store;
 
 // Above the number of every row.
 const NUMBERS: u16 = 0x0500;
 
-// What `record` shows after the identity: the numbers, and then the 28 entries of the schedule, which a Micra alone has.
-const ITEMS: u16 = 0x051C;
-
-fn put_row(out: Stdout, text: &mut [u8], at: usize, number: u16, bytes: &[u8], unit: u8) -> usize {
-    let Found::At(_) = store::find(unit, number) else {
-        return at;
-    };
-    let page = (number / 256) as u8;
-    let low = (number % 256) as u8;
-    output::put_held(out, text, at, page, low, store::held(bytes, unit, number))
-}
-
-fn put_item(
-    out: Stdout,
-    text: &mut [u8],
-    at: usize,
-    item: u16,
-    bytes: &[u8],
-    unit: u8,
-    schedule: Schedule,
-) -> usize {
-    if item < NUMBERS {
-        return put_row(out, text, at, item, bytes, unit);
+// The rows that a unit type has, numbers ascending.
+fn put_rows<W: Write>(out: &mut W, store: Store) -> io::Result<()> {
+    for number in 0..NUMBERS {
+        if store::find(store.unit, number).is_some() {
+            let [page, low] = number.to_be_bytes();
+            output::put_held(out, page, low, store::held(&store.bytes, store.unit, number))?;
+        }
     }
-    if unit != rows::MICRA {
-        return at;
-    }
-    schedule_entries::put(out, text, at, schedule, item - NUMBERS)
-}
-
-fn put_items(
-    out: Stdout,
-    text: &mut [u8],
-    at: usize,
-    bytes: &[u8],
-    unit: u8,
-    schedule: Schedule,
-) -> usize {
-    let mut end = at;
-    let mut item: u16 = 0;
-    while item < ITEMS {
-        end = put_item(out, text, end, item, bytes, unit, schedule);
-        item += 1;
-    }
-    end
-}
-
-fn put_mode(out: Stdout, text: &mut [u8], at: usize, mode: u8, unit: u8) -> usize {
-    let end = output::put_decimal(out, text, at, b" mode=", mode as u64);
-    output::put_decimal(out, text, end, b" type=", unit as u64)
-}
-
-fn put_identity(out: Stdout, text: &mut [u8], at: usize, board: Board) -> usize {
-    let id = board.id;
-    let password = board.password;
-    let size = usize::from(board.size);
-    let before_id = output::put(out, text, at, b"record id=");
-    let after_id = output::put_field(out, text, before_id, &id);
-    let before_password = output::put(out, text, after_id, b" password=");
-    let after_password = output::put_field(
-        out,
-        text,
-        before_password,
-        octets::first_bytes(&password, size),
-    );
-    put_mode(
-        out,
-        text,
-        after_password,
-        board.mode,
-        board.parameters.store.unit,
-    )
+    Ok(())
 }
 
 // record
-pub(crate) fn show(board: Board, left: &[u8], out: Stdout, text: &mut [u8], at: usize) -> usize {
-    if left.len() != 0 {
-        return output::put_bad(out, text, at);
+pub(crate) fn show<W: Write>(board: &Board, out: &mut W) -> Result<(), Fault> {
+    let id = Field(&board.id);
+    let password = Field(octets::first_bytes(&board.password, usize::from(board.size)));
+    let mode = board.mode;
+    let store = board.parameters.store;
+    let unit = store.unit;
+    write!(out, "record id={id} password={password} mode={mode} type={unit}")?;
+    put_rows(out, store)?;
+    if unit == rows::MICRA {
+        schedule_entries::put(out, board.parameters.schedule)?;
     }
-    let end = put_identity(out, text, at, board);
-    let parameters = board.parameters;
-    let store = parameters.store;
-    let bytes = store.bytes;
-    put_items(out, text, end, &bytes, store.unit, parameters.schedule)
+    Ok(())
 }
 
-fn with_id(board: Board, value: &[u8]) -> Board {
+fn poke_id(board: &mut Board, value: &[u8]) {
     let mut id = [0u8; framing::ID_SIZE];
     octets::overwrite(&mut id, 0, octets::first_bytes(value, framing::ID_SIZE));
-    let mut next = board;
-    next.id = id;
-    next
+    board.id = id;
 }
 
-fn with_password(board: Board, value: &[u8]) -> Board {
+fn poke_password(board: &mut Board, value: &[u8]) {
     let mut password = [0u8; framing::LONGEST_PASSWORD];
     let kept = octets::first_bytes(value, framing::LONGEST_PASSWORD);
     octets::overwrite(&mut password, 0, kept);
-    let mut next = board;
-    next.password = password;
-    next.size = slices::narrow_u8(kept.len());
-    next
-}
-
-fn with_mode(board: Board, mode: u8) -> Board {
-    let mut next = board;
-    next.mode = mode;
-    next
-}
-
-fn with_parameters(board: Board, parameters: Parameters) -> Board {
-    let mut next = board;
-    next.parameters = parameters;
-    next
+    board.password = password;
+    board.size = u8::try_from(kept.len()).unwrap_or(u8::MAX);
 }
 
 // The bytes of a store in which each byte is its own place.
 fn places() -> [u8; store::BYTES] {
     let mut bytes = [0u8; store::BYTES];
-    let mut place: usize = 0;
-    while place < store::BYTES {
-        bytes[place] = slices::narrow_u8(place);
-        place += 1;
+    for (place, byte) in bytes.iter_mut().enumerate() {
+        *byte = u8::try_from(place).unwrap_or(u8::MAX);
     }
     bytes
 }
 
 fn is_text(number: u16) -> bool {
-    match number {
-        0x0095 | 0x0096 => true,
-        _ => false,
-    }
+    matches!(number, 0x0095 | 0x0096)
 }
 
 // Writes a value into the slot of `size` bytes at `place`, cut or filled up with 0; a text has its length in the byte before.
@@ -152,123 +70,60 @@ fn write_slot(bytes: &mut [u8], place: usize, size: usize, value: &[u8], text: b
     let kept = octets::first_bytes(value, size);
     octets::overwrite(bytes, place, octets::first_bytes(&zeros, size));
     octets::overwrite(bytes, place, kept);
-    if !text {
-        return;
+    if text && 0 < place {
+        let length = [u8::try_from(kept.len()).unwrap_or(u8::MAX)];
+        octets::overwrite(bytes, place - 1, &length);
     }
-    if place == 0 {
-        return;
-    }
-    let length = [slices::narrow_u8(kept.len())];
-    octets::overwrite(bytes, place - 1, &length);
 }
 
 // By the contract of `store::held` alone: of a store in which each byte is its own place it hands back the places of a row's value.
 // (A text's length is read there too; both texts lie far enough from the start for their whole slots.)
-fn with_row(board: Board, number: u16, value: &[u8]) -> Board {
+fn poke_row(board: &mut Board, number: u16, value: &[u8]) {
     let own = places();
-    let held = store::held(&own, board.parameters.store.unit, number);
-    if held.len() == 0 {
-        return board;
+    let store = board.parameters.store;
+    let held = store::held(&own, store.unit, number);
+    if held.is_empty() {
+        return;
     }
-    let place = usize::from(held[0]);
-    let parameters = board.parameters;
-    let store = parameters.store;
     let mut bytes = store.bytes;
-    write_slot(&mut bytes, place, held.len(), value, is_text(number));
-    let schedule = parameters.schedule;
-    with_parameters(
-        board,
-        Parameters {
-            store: Store {
-                unit: store.unit,
-                bytes,
-            },
-            schedule,
-        },
-    )
+    write_slot(&mut bytes, usize::from(held[0]), held.len(), value, is_text(number));
+    board.parameters.store.bytes = bytes;
 }
 
-// A board with another unit type; its bytes stay as they are.
-fn with_unit(board: Board, unit: u8) -> Board {
-    let parameters = board.parameters;
-    let store = parameters.store;
-    let bytes = store.bytes;
-    let schedule = parameters.schedule;
-    with_parameters(
-        board,
-        Parameters {
-            store: Store { unit, bytes },
-            schedule,
-        },
-    )
-}
-
-fn with_entry(board: Board, index: usize, value: &[u8]) -> Board {
-    let parameters = board.parameters;
-    let store = parameters.store;
-    if store.unit != rows::MICRA {
-        return board;
-    }
-    let schedule = schedule_entries::with(parameters.schedule, index, value);
-    with_parameters(board, Parameters { store, schedule })
-}
-
-fn poked(board: Board, out: Stdout, text: &mut [u8], at: usize) -> Step {
-    Step {
-        board,
-        at: output::put(out, text, at, b"poked"),
+// An entry of the schedule, which a Micra alone has.
+fn poke_entry(board: &mut Board, index: usize, value: &[u8]) {
+    if board.parameters.store.unit == rows::MICRA {
+        let schedule = schedule_entries::with(board.parameters.schedule, index, value);
+        board.parameters.schedule = schedule;
     }
 }
 
-// poke mode N
-fn poke_mode(step: Step, field: &[u8], out: Stdout, text: &mut [u8]) -> Step {
-    let Byte::Value(mode) = fields::read_byte(field) else {
-        return calls::bad(step, out, text);
-    };
-    poked(with_mode(step.board, mode), out, text, step.at)
+// poke 0077:D.P VALUE, poke NUMBER VALUE
+fn poke_parameter(board: &mut Board, name: &str, value: &[u8]) -> Result<(), Fault> {
+    if let Some(index) = schedule_entries::place_of(name) {
+        poke_entry(board, index, value);
+        return Ok(());
+    }
+    let number = fields::number(name).ok_or(Fault::BadLine)?;
+    poke_row(board, number, value);
+    Ok(())
 }
 
-// poke type N
-fn poke_type(step: Step, field: &[u8], out: Stdout, text: &mut [u8]) -> Step {
-    let Byte::Value(unit) = fields::read_byte(field) else {
-        return calls::bad(step, out, text);
-    };
-    poked(with_unit(step.board, unit), out, text, step.at)
-}
-
-// poke id HEX, poke password HEX, poke 0077:D.P VALUE, poke NUMBER VALUE
-fn poke_bytes(step: Step, name: &[u8], value: &[u8], out: Stdout, text: &mut [u8]) -> Step {
-    if octets::equal(name, b"id") {
-        return poked(with_id(step.board, value), out, text, step.at);
+// poke mode N, poke type N, poke id HEX, poke password HEX, and the parameters
+pub(crate) fn poke<W: Write>(
+    board: &mut Board,
+    name: &str,
+    value: &str,
+    alloc: Global,
+    out: &mut W,
+) -> Result<(), Fault> {
+    match name {
+        "mode" => board.mode = fields::byte(value).ok_or(Fault::BadLine)?,
+        "type" => board.parameters.store.unit = fields::byte(value).ok_or(Fault::BadLine)?,
+        "id" => poke_id(board, &hex::decode(value, alloc)?),
+        "password" => poke_password(board, &hex::decode(value, alloc)?),
+        _ => poke_parameter(board, name, &hex::decode(value, alloc)?)?,
     }
-    if octets::equal(name, b"password") {
-        return poked(with_password(step.board, value), out, text, step.at);
-    }
-    if let Place::At(index) = schedule_entries::place_of(name) {
-        return poked(with_entry(step.board, index, value), out, text, step.at);
-    }
-    let Number::Value(number) = fields::read_number(name) else {
-        return calls::bad(step, out, text);
-    };
-    poked(with_row(step.board, number, value), out, text, step.at)
-}
-
-pub(crate) fn poke(step: Step, left: &[u8], out: Stdout, text: &mut [u8]) -> Step {
-    let name = fields::first(left, b' ');
-    let last = fields::after(left, b' ');
-    if !fields::is_last(last) {
-        return calls::bad(step, out, text);
-    }
-    let field = fields::first(last, b' ');
-    if octets::equal(name, b"mode") {
-        return poke_mode(step, field, out, text);
-    }
-    if octets::equal(name, b"type") {
-        return poke_type(step, field, out, text);
-    }
-    let mut bytes = hex::room();
-    let Decoded::Until(end) = hex::decode(field, &mut bytes, 0) else {
-        return calls::bad(step, out, text);
-    };
-    poke_bytes(step, name, octets::first_bytes(&bytes, end), out, text)
+    out.write_all(b"poked")?;
+    Ok(())
 }

@@ -1,176 +1,97 @@
 // The calls of the tool: write, read, list.
-use crate::fields::{Decimal, Items, Number, Two};
-use crate::hex::{Byte, Decoded};
-use crate::{fields, hex, output, slices};
+use crate::fields::Fault;
+use crate::{fields, hex, output};
 use block::response::NextReport;
-use std::io::Stdout;
-use tool::listing::Listed;
-use tool::request::Written;
-use tool::response::Response;
+use refusals::Refusal;
+use std::alloc::Global;
+use std::io;
+use std::io::Write;
 
-#[derive(Clone, Copy)]
-enum Command {
-    // The value has `length` bytes and ends at `end` among the values.
-    Read {
-        function: u8,
-        number: u16,
-        length: u16,
-        end: usize,
-    },
-    Bad,
+// A command list, the parts of each command side by side.
+#[derive(Drop)]
+struct Commands {
+    functions: Vec<u8>,
+    numbers: Vec<u16>,
+    lengths: Vec<u16>,
+    values: Vec<u8>,
 }
 
-// Reads F:NNNN:VALUE, and puts the value into `values` from `at` on.
-fn read_command(command: &[u8], values: &mut [u8], at: usize) -> Command {
-    let colon = slices::place_of(command, 0, b':');
-    let Byte::Value(function) = fields::read_byte(octets::first_bytes(command, colon)) else {
-        return Command::Bad;
-    };
-    let left = octets::bytes_after(command, colon);
-    let Number::Value(number) = fields::read_number(fields::first(left, b':')) else {
-        return Command::Bad;
-    };
-    let last = fields::after(left, b':');
-    let value = octets::bytes_after(last, 1);
-    let Decoded::Until(end) = hex::decode(value, values, at) else {
-        return Command::Bad;
-    };
-    Command::Read {
-        function,
-        number,
-        length: slices::narrow_u16(hex::size(value)),
-        end,
-    }
+// Reads F:NNNN:VALUE.
+fn read_command(command: &str, list: &mut Commands) -> Result<(), Fault> {
+    let (function, rest) = command.split_once(':').ok_or(Fault::BadLine)?;
+    let (number, value) = rest.split_once(':').ok_or(Fault::BadLine)?;
+    let before = list.values.len();
+    hex::decode_onto(value, &mut list.values)?;
+    let length = list.values.len().saturating_sub(before);
+    list.functions.push(fields::byte(function).ok_or(Fault::BadLine)?)?;
+    list.numbers.push(fields::number(number).ok_or(Fault::BadLine)?)?;
+    list.lengths.push(u16::try_from(length).ok().ok_or(Fault::BadLine)?)?;
+    Ok(())
 }
 
-// Reads the commands of a list, the parts of each into slices side by side.
-fn read_commands(
-    list: &[u8],
-    functions: &mut [u8],
-    numbers: &mut [u16],
-    lengths: &mut [u16],
-    values: &mut [u8],
-) -> Items {
-    let mut left = list;
-    let mut count: usize = 0;
-    let mut size: usize = 0;
-    while 0 < left.len() {
-        let Command::Read {
-            function: next_function,
-            number,
-            length,
-            end,
-        } = read_command(fields::first(left, b' '), values, size)
-        else {
-            return Items::Bad;
-        };
-        if functions.len() <= count {
-            return Items::Bad;
-        }
-        functions[count] = next_function;
-        slices::put_number(numbers, count, number);
-        slices::put_number(lengths, count, length);
-        count += 1;
-        size = end;
-        let rest = fields::after(left, b' ');
-        left = rest;
+fn read_commands(commands: &[&str], alloc: Global) -> Result<Commands, Fault> {
+    let mut list = Commands {
+        functions: Vec::new(alloc),
+        numbers: Vec::new(alloc),
+        lengths: Vec::new(alloc),
+        values: Vec::new(alloc),
+    };
+    for command in commands {
+        read_command(command, &mut list)?;
     }
-    Items::Read { count, size }
+    Ok(list)
 }
 
 // The answer of a write, whose packet stands at the start of a lent buffer.
-fn put_written(out: Stdout, text: &mut [u8], at: usize, written: Written, buffer: &[u8]) -> usize {
+fn put_written<W: Write>(out: &mut W, written: Result<usize, Refusal>, buffer: &[u8]) -> io::Result<()> {
     match written {
-        Written::Refused(number) => output::put_refusal(out, text, at, number, buffer),
-        Written::Length(length) => output::put_written(out, text, at, b"packet ", buffer, length),
+        Ok(length) => output::put_written(out, "packet", buffer, length),
+        Err(refusal) => output::put_refusal(out, refusal, buffer),
     }
-}
-
-// Writes the packet of a command list into a lent buffer.
-fn write_list(
-    out: Stdout,
-    text: &mut [u8],
-    at: usize,
-    buffer: &mut [u8],
-    id: &[u8],
-    password: &[u8],
-    list: &[u8],
-) -> usize {
-    let mut functions = [0u8; fields::MOST];
-    let mut numbers = [0u16; fields::MOST];
-    let mut lengths = [0u16; fields::MOST];
-    let mut values = hex::room();
-    let Items::Read { count, size } = read_commands(
-        list,
-        &mut functions,
-        &mut numbers,
-        &mut lengths,
-        &mut values,
-    ) else {
-        return output::put_bad(out, text, at);
-    };
-    let written = tool::request::write(
-        buffer,
-        id,
-        password,
-        octets::first_bytes(&functions, count),
-        slices::first_numbers(&numbers, count),
-        slices::first_numbers(&lengths, count),
-        octets::first_bytes(&values, size),
-    );
-    put_written(out, text, at, written, buffer)
 }
 
 // write LENGTH ID PASSWORD F:NNNN:VALUE ..
-pub(crate) fn write(left: &[u8], out: Stdout, text: &mut [u8], at: usize) -> usize {
-    let Decimal::Value(length) = fields::read_decimal(fields::first(left, b' ')) else {
-        return output::put_bad(out, text, at);
-    };
-    if 1024 < length {
-        return output::put_bad(out, text, at);
-    }
-    let sender = fields::after(left, b' ');
-    let mut bytes = hex::room();
-    let Two::Until { first, second } = fields::decode_two(sender, &mut bytes) else {
-        return output::put_bad(out, text, at);
-    };
-    let both = &bytes[..];
-    let mut buffer = [output::FILLER; 1024];
-    write_list(
-        out,
-        text,
-        at,
-        &mut buffer[0..length],
-        octets::first_bytes(both, first),
-        slices::part(both, first, second),
-        fields::after_two(sender),
-    )
+pub(crate) fn write<W: Write>(
+    length: &str,
+    id: &str,
+    password: &str,
+    commands: &[&str],
+    alloc: Global,
+    out: &mut W,
+) -> Result<(), Fault> {
+    let length = fields::room(length, 1024).ok_or(Fault::BadLine)?;
+    let id = hex::decode(id, alloc)?;
+    let password = hex::decode(password, alloc)?;
+    let list = read_commands(commands, alloc)?;
+    let mut buffer = fields::lent(alloc, length)?;
+    let written = tool::request::write(
+        &mut buffer,
+        &id,
+        &password,
+        &list.functions,
+        &list.numbers,
+        &list.lengths,
+        &list.values,
+    );
+    put_written(out, written, &buffer)?;
+    Ok(())
 }
 
-fn put_reports(out: Stdout, text: &mut [u8], at: usize, block: &[u8]) -> usize {
-    let mut end = at;
+fn put_reports<W: Write>(out: &mut W, block: &[u8]) -> io::Result<()> {
     let mut left = block;
     let mut page: u8 = 0;
     loop {
         match reports::next_report(left, page) {
-            NextReport::End => return end,
-            NextReport::Malformed => return end,
+            NextReport::End => return Ok(()),
+            NextReport::Malformed => return Ok(()),
             NextReport::Held {
                 page: next_page,
                 low,
                 value,
                 rest,
             } => {
-                end = output::put_held(
-                    out,
-                    text,
-                    end,
-                    next_page,
-                    low,
-                    block::part(left, value, rest),
-                );
-                let after = block::part(left, rest, 0);
-                left = after;
+                output::put_held(out, next_page, low, block::part(left, value, rest))?;
+                left = block::part(left, rest, 0);
                 page = next_page;
             }
             NextReport::Unknown {
@@ -178,62 +99,46 @@ fn put_reports(out: Stdout, text: &mut [u8], at: usize, block: &[u8]) -> usize {
                 low,
                 rest,
             } => {
-                end = output::put_unknown(out, text, end, next_page, low);
-                let after = block::part(left, rest, 0);
-                left = after;
+                output::put_unknown(out, next_page, low)?;
+                left = block::part(left, rest, 0);
                 page = next_page;
             }
         }
     }
 }
 
-fn put_response(
-    out: Stdout,
-    text: &mut [u8],
-    at: usize,
-    response: Response,
-    packet: &[u8],
-) -> usize {
-    match response {
-        Response::Refused(number) => output::put_refused(out, text, at, number),
-        Response::Accepted { block, end } => {
-            let start = output::put(out, text, at, b"reports");
-            put_reports(out, text, start, slices::part(packet, block, end))
+// read ID PASSWORD PACKET
+pub(crate) fn read<W: Write>(
+    id: &str,
+    password: &str,
+    packet: &str,
+    alloc: Global,
+    out: &mut W,
+) -> Result<(), Fault> {
+    let id = hex::decode(id, alloc)?;
+    let password = hex::decode(password, alloc)?;
+    let packet = hex::decode(packet, alloc)?;
+    match tool::response::read(&packet, &id, &password) {
+        Err(refusal) => output::put_refused(out, refusal)?,
+        Ok(block) => {
+            out.write_all(b"reports")?;
+            let behind = octets::bytes_after(&packet, block.block);
+            put_reports(out, octets::first_bytes(behind, block.end.saturating_sub(block.block)))?;
         }
     }
-}
-
-// read ID PASSWORD PACKET
-pub(crate) fn read(left: &[u8], out: Stdout, text: &mut [u8], at: usize) -> usize {
-    let mut bytes = hex::room();
-    let Two::Until { first, second } = fields::decode_two(left, &mut bytes) else {
-        return output::put_bad(out, text, at);
-    };
-    let last = fields::after_two(left);
-    let Decoded::Until(end) = fields::decode_last(last, &mut bytes, second) else {
-        return output::put_bad(out, text, at);
-    };
-    let all = &bytes[..];
-    let packet = slices::part(all, second, end);
-    let response = tool::response::read(
-        packet,
-        octets::first_bytes(all, first),
-        slices::part(all, first, second),
-    );
-    put_response(out, text, at, response, packet)
+    Ok(())
 }
 
 // list PACKET
-pub(crate) fn list(left: &[u8], out: Stdout, text: &mut [u8], at: usize) -> usize {
-    let mut bytes = hex::room();
-    let Decoded::Until(end) = fields::decode_last(left, &mut bytes, 0) else {
-        return output::put_bad(out, text, at);
-    };
+pub(crate) fn list<W: Write>(packet: &str, alloc: Global, out: &mut W) -> Result<(), Fault> {
+    let packet = hex::decode(packet, alloc)?;
     // The longest listing.
     let mut lines = [0u8; 1753];
-    let Listed::Length(length) = tool::listing::list(&mut lines, octets::first_bytes(&bytes, end))
-    else {
-        return at;
+    let Some(length) = tool::listing::list(&mut lines, &packet) else {
+        return Ok(());
     };
-    output::put_joined(out, text, at, octets::first_bytes(&lines, length))
+    if length <= lines.len() {
+        output::put_joined(out, &mut lines[..length])?;
+    }
+    Ok(())
 }
