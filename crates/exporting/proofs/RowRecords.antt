@@ -8,6 +8,7 @@ use mathlib.Core.Path.{◌≡◌, ap}
 use borrow.Author.Tests.{le-leb, eq-eqb, ne_eqb}
 use lib.ListN.{length, take, drop, length-take}
 use lib.Seq.{take_at}
+use Rattle.std.specs.Prelude.{Some}
 use Rattle.octets.specs.Octets.{overwrite}
 use Rattle.captures.specs.Form.{record_of}
 use Rattle.tool.specs.Response.{any_response_refusal, any_response_of, reports_of}
@@ -20,7 +21,6 @@ use Rattle.tables.specs.Rows.{row_lines}
 use Rattle.tables.specs.Exporting.{id_of, is_refused}
 use Rattle.exporting.specs.Text.{record_lines, room_after}
 use Rattle.exporting.specs.RowText.{row_start, left_text, Puts}
-use Rattle.exporting.specs.declared.rows.Room.TheVariants.{Left}
 use Rattle.exporting.proofs.RowTexts.{length_start, rows_text, put_none, all_put}
 
 -- an ID has 16 bytes at the most, and so the start of a row 66
@@ -85,5 +85,5 @@ module _ {ids : List ℕ} {index direction counter : ℕ} {packet : List ℕ} {r
       → Leaves ids index direction counter packet buffer at at refused buffer
   none_put buffer at h = rows_put rows (all_put (put_none buffer at [] (rows_fit rows buffer at h)))
 
-  pub room_kept : (room : ℕ) → Left room ≡ room_after room (record_lines ids (record_of index direction counter packet))
-  room_kept room = rw (rows.lines, le-leb 0 room (omega arith)) (ap Left (omega arith))
+  pub room_kept : (room : ℕ) → Some room ≡ room_after room (record_lines ids (record_of index direction counter packet))
+  room_kept room = rw (rows.lines, le-leb 0 room (omega arith)) (ap Some (omega arith))

@@ -20,10 +20,8 @@ use Rattle.captures.proofs.Buffers.{PutFrom, next_fits, put_on}
 use Rattle.tables.specs.Rows.{number_of, value_of}
 use Rattle.exporting.specs.Text.{room_after}
 use Rattle.exporting.specs.RowText.{row_text, row_texts, left_text, next_row, row_size, Puts}
-use Rattle.exporting.specs.declared.rows.Room.{Room}
-use Rattle.exporting.specs.declared.rows.Room.TheVariants as room
+use Rattle.std.specs.Prelude as answers
 use Rattle.exporting.specs.declared.rows.NextRow.{NextRow}
-use Rattle.exporting.specs.declared.rows.NextRow.TheVariants as row
 use Rattle.exporting.proofs.RowTexts.{length_row}
 
 -- the text of a first report and of those behind it, where they are well formed
@@ -50,9 +48,9 @@ pub record Step (page : ℕ) (left : List ℕ) (next_page low value rest : ℕ) 
   pub shorter : length (part_of rest 0 left) < length left
   pub text : (start : List ℕ) → left_text start page left ≡ row_text start (next_page ∷ low ∷ []) (part_of value rest left) ++ left_text start next_page (part_of rest 0 left)
 
-abbrev Stepped : ℕ → List ℕ → NextRow → Type 0
-Stepped page left (row.Row next_page low value rest) = Step page left next_page low value rest
-Stepped page left row.End = (start : List ℕ) → left_text start page left ≡ []
+abbrev Stepped : ℕ → List ℕ → answers.Option NextRow → Type 0
+Stepped page left (answers.Some row) = Step page left row.page row.low row.value row.rest
+Stepped page left answers.None = (start : List ℕ) → left_text start page left ≡ []
 
 module _ (page : ℕ) (left : List ℕ) (well : is_some (reports_from page left) ≡ true) where
   text_by : (i : NextReport) → next_report page left ≡ i → (start : List ℕ) → left_text start page left ≡ row_texts start (get_or (reports_after reports_from left i) [])
@@ -81,14 +79,14 @@ module _ (page : ℕ) (left : List ℕ) (well : is_some (reports_from page left)
         text = λ (start : List ℕ). rw (no_part r left) (text_by (next.Unknown p l r) f start ∙ more_text start (unknown p l) (reports_from p (part_of r 0 left)) after);
       }
 
-  module _ {answer : NextRow} (e : answer ≡ next_row (next_report page left)) where
+  module _ {answer : answers.Option NextRow} (e : answer ≡ next_row (next_report page left)) where
     step : Stepped page left answer
     step = rw e (step_by (next_report page left) refl)
 
-    pub row_next : {next_page low value rest : ℕ} → answer ≡ row.Row next_page low value rest → Step page left next_page low value rest
+    pub row_next : {row : NextRow} → answer ≡ answers.Some row → Step page left row.page row.low row.value row.rest
     row_next h = rw h at step
 
-    pub row_end : answer ≡ row.End → (start : List ℕ) → left_text start page left ≡ []
+    pub row_end : answer ≡ answers.None → (start : List ℕ) → left_text start page left ≡ []
     row_end h = rw h at step
 
 -- the next row is put
@@ -105,21 +103,21 @@ module _
   row_on done = put_on (row_text start (next_page ∷ low ∷ []) bytes) _ so_far parts done.ends (with_room row_fits done.held)
 
 -- what is told of the room that a text has
-told_by : (fit : Bool) (size : ℕ) {answer : Room} → answer ≡ cond fit (room.Left size) room.NoRoom → {left : ℕ} → answer ≡ room.Left left → (fit ≡ true) × (left ≡ size)
+told_by : (fit : Bool) (size : ℕ) {answer : answers.Option ℕ} → answer ≡ cond fit (answers.Some size) answers.None → {left : ℕ} → answer ≡ answers.Some left → (fit ≡ true) × (left ≡ size)
 told_by true size e h = (refl, cc)
 told_by false size e h = ((cc), (cc))
 
-none_by : (fit : Bool) (size : ℕ) {answer : Room} → answer ≡ cond fit (room.Left size) room.NoRoom → answer ≡ room.NoRoom → fit ≡ false
+none_by : (fit : Bool) (size : ℕ) {answer : answers.Option ℕ} → answer ≡ cond fit (answers.Some size) answers.None → answer ≡ answers.None → fit ≡ false
 none_by true size e h = cc
 none_by false size e h = refl
 
-module _ (space : ℕ) (text : List ℕ) {answer : Room} (e : answer ≡ room_after space text) where
-  left_told : {left : ℕ} → answer ≡ room.Left left → left + length text ≡ space
+module _ (space : ℕ) (text : List ℕ) {answer : answers.Option ℕ} (e : answer ≡ room_after space text) where
+  left_told : {left : ℕ} → answer ≡ answers.Some left → left + length text ≡ space
   left_told h =
       let told = told_by (leb (length text) space) (space - length text) e h in
       omega (arith, leb-true (length text) space told.0)
 
-  none_told : answer ≡ room.NoRoom → space < length text
+  none_told : answer ≡ answers.None → space < length text
   none_told h = leb-false (length text) space (none_by (leb (length text) space) (space - length text) e h)
 
 -- so much room is left before the rows of what is left of a block
@@ -127,15 +125,15 @@ pub record RoomLeft (room : ℕ) (start block : List ℕ) (space page : ℕ) (le
   pub spent : space + length (left_text start 0 block) ≡ room + length (left_text start page left)
 
 module _ (space : ℕ) (start block : List ℕ) {left page : ℕ} {rest : List ℕ} (so_far : RoomLeft space start block left page rest) where
-  pub room_left : left_text start page rest ≡ [] → room.Left left ≡ room_after space (left_text start 0 block)
+  pub room_left : left_text start page rest ≡ [] → answers.Some left ≡ room_after space (left_text start 0 block)
   room_left h =
       let nothing : length (left_text start page rest) ≡ 0 = ap length h in
       rw (le-leb (length (left_text start 0 block)) space (omega (arith, so_far.spent)))
-      (ap room.Left (omega (arith, so_far.spent)))
+      (ap answers.Some (omega (arith, so_far.spent)))
 
   module _
       {next_page low value after : ℕ} (step : Step page rest next_page low value after) {size : ℕ} {bytes : List ℕ} (sized : length start ≡ size)
-      (part : bytes ≡ part_of value after rest) {answer : Room} (e : (row : List ℕ) → length row ≡ row_size size (length bytes) → answer ≡ room_after left row) where
+      (part : bytes ≡ part_of value after rest) {answer : answers.Option ℕ} (e : (row : List ℕ) → length row ≡ row_size size (length bytes) → answer ≡ room_after left row) where
     abbrev line : List ℕ
     line = row_text start (next_page ∷ low ∷ []) bytes
 
@@ -145,8 +143,8 @@ module _ (space : ℕ) (start block : List ℕ) {left page : ℕ} {rest : List �
     after_line : answer ≡ room_after left line
     after_line = e line (rw (← sized) (length_row start (next_page ∷ low ∷ []) bytes refl))
 
-    pub room_more : {more : ℕ} → answer ≡ room.Left more → RoomLeft space start block more next_page (part_of after 0 rest)
+    pub room_more : {more : ℕ} → answer ≡ answers.Some more → RoomLeft space start block more next_page (part_of after 0 rest)
     room_more h = record { spent = omega (arith, so_far.spent, size_now, left_told left line after_line h) }
 
-    pub room_none : answer ≡ room.NoRoom → room.NoRoom ≡ room_after space (left_text start 0 block)
+    pub room_none : answer ≡ answers.None → answers.None ≡ room_after space (left_text start 0 block)
     room_none h = rw (lt-leb (length (left_text start 0 block)) space (omega (arith, so_far.spent, size_now, none_told left line after_line h)))

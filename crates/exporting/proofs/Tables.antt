@@ -6,6 +6,7 @@ use mathlib.Core.List.{List, ◌++◌}
 use mathlib.Core.Path.{◌≡◌, refl, sym, ap, ◌∙◌}
 use borrow.Author.Tests.{lt-ltb, le-ltb}
 use lib.ListN.{length, length-append}
+use Rattle.std.specs.Prelude.{Some, None}
 use Rattle.octets.specs.Octets.{overwrite, Overwrites}
 use Rattle.octets.proofs.Overwriting.{overwrites}
 use Rattle.captures.specs.Reading.{Reading, records_of}
@@ -20,7 +21,6 @@ use Rattle.exporting.specs.Exporting.{capped, PutsRecords, exported_as, ExportsT
 use Rattle.exporting.specs.declared.Records.{Records}
 use Rattle.exporting.specs.declared.Exported.{Exported}
 use Rattle.exporting.specs.declared.Exported.TheVariants.{Table, NoRoom}
-use Rattle.exporting.specs.declared.rows.Room.TheVariants as room
 use Rattle.exporting.proofs.Rooms.{room_tells}
 
 pub header_size : 48 ≡ length header_line
@@ -59,10 +59,10 @@ module _ (buffer ids : List ℕ) (reading : Reading) where
 
   -- what is told of the room behind the header
   module _ (h : 48 ≤ length buffer) where
-    pub rows_too_long : room_after (length buffer - 48) rows ≡ room.NoRoom → length buffer < 48 + length rows
+    pub rows_too_long : room_after (length buffer - 48) rows ≡ None → length buffer < 48 + length rows
     rows_too_long e = omega (arith, room_tells (length buffer - 48) rows e)
 
-    pub rows_have_room : {left : ℕ} → room_after (length buffer - 48) rows ≡ room.Left left → 48 + length rows ≤ length buffer
+    pub rows_have_room : {left : ℕ} → room_after (length buffer - 48) rows ≡ Some left → 48 + length rows ≤ length buffer
     rows_have_room e = omega (arith, room_tells (length buffer - 48) rows e)
 
   module _ (roomy : 48 + length rows ≤ length buffer) where

@@ -1,5 +1,5 @@
 -- The text of a row by its parts. What stands before the number is the same in each row of a response.
-use Rattle.std.specs.Prelude.{ℕ, ◌+◌, ◌*◌, List, [], ◌∷◌, ◌++◌, ◌≡◌, length}
+use Rattle.std.specs.Prelude.{ℕ, ◌+◌, ◌*◌, List, Option, Some, None, [], ◌∷◌, ◌++◌, ◌≡◌, length}
 use Rattle.std.proofs.Math.Option.{get_or}
 use Rattle.octets.specs.Octets.{overwrite}
 use Rattle.block.specs.Command.{Report}
@@ -11,7 +11,6 @@ use Rattle.tables.specs.Lines.{line_end}
 use Rattle.tables.specs.Fields.{quote, comma}
 use Rattle.tables.specs.Rows.{number_of, value_of}
 use Rattle.exporting.specs.declared.rows.NextRow.{NextRow}
-use Rattle.exporting.specs.declared.rows.NextRow.TheVariants as row
 
 -- between two fields
 abbrev pub field_break : List ℕ
@@ -53,12 +52,15 @@ row_texts start (r ∷ rs) = row_text start (number_of r) (value_of r) ++ row_te
 abbrev pub left_text : List ℕ → ℕ → List ℕ → List ℕ
 left_text start page left = row_texts start (get_or (reports_from page left) [])
 
+abbrev pub next_as : ℕ → ℕ → ℕ → ℕ → NextRow
+next_as page low value rest = record { page = page; low = low; value = value; rest = rest }
+
 -- the next report: an unknown parameter has no value
-abbrev pub next_row : NextReport → NextRow
-next_row (next.Held page low value rest) = row.Row page low value rest
-next_row (next.Unknown page low rest) = row.Row page low rest rest
-next_row next.End = row.End
-next_row next.Malformed = row.End
+abbrev pub next_row : NextReport → Option NextRow
+next_row (next.Held page low value rest) = Some (next_as page low value rest)
+next_row (next.Unknown page low rest) = Some (next_as page low rest rest)
+next_row next.End = None
+next_row next.Malformed = None
 
 -- the size of a row, by the sizes of its start and its value
 abbrev pub row_size : ℕ → ℕ → ℕ

@@ -1,10 +1,8 @@
 -- The text of an export by its parts: the rows of a record.
-use Rattle.std.specs.Prelude.{ℕ, ◌-◌, cond, List, leb, length}
+use Rattle.std.specs.Prelude.{ℕ, ◌-◌, cond, List, Option, Some, None, leb, length}
 use Rattle.captures.specs.Form.{Record}
 use Rattle.tables.specs.Rows.{row_lines}
 use Rattle.tables.specs.Exporting.{record_rows, rows_from}
-use Rattle.exporting.specs.declared.rows.Room.{Room}
-use Rattle.exporting.specs.declared.rows.Room.TheVariants as room
 
 -- the lines of a record: none of a request, or of a response that is refused
 abbrev pub record_lines : List ℕ → Record → List ℕ
@@ -14,5 +12,5 @@ abbrev pub records_lines : List ℕ → List Record → List ℕ
 records_lines ids records = row_lines (rows_from ids records)
 
 -- what is left of some room after a text
-abbrev pub room_after : ℕ → List ℕ → Room
-room_after space text = cond (leb (length text) space) (room.Left (space - length text)) room.NoRoom
+abbrev pub room_after : ℕ → List ℕ → Option ℕ
+room_after space text = cond (leb (length text) space) (Some (space - length text)) None

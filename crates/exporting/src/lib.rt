@@ -11,7 +11,6 @@ ghost use Rattle.exporting.specs.Exporting.{refused_after, put_until, PutsRecord
 use captures::Version;
 use captures::reading::{NextRecord, Opened};
 use counts::counting::Ending;
-use rows::Room;
 
 mod rows;
 pub mod window;
@@ -29,17 +28,18 @@ pub enum Exported {
     NoRoom,
 }
 
-// What is left of some room after the rows of the records of these bytes, of a capture of this version and of so many boards.
-fn fit(room: usize, ids: &[u8], records: &[u8], version: Version, boards: u16) -> Room
+// What is left of some room after the rows of the records of these bytes, of a capture of this version and of so many boards; none where
+// the room is too small.
+fn fit(room: usize, ids: &[u8], records: &[u8], version: Version, boards: u16) -> Option<usize>
     ensures { result ≡ room_after room (records_lines ids.now (records_of (read version boards records.now))) }
 {
     let mut left = room;
     let mut rest = records;
     loop {
         match captures::reading::next_record(rest, version, boards) {
-            NextRecord::End => return Room::Left(left),
-            NextRecord::Cut => return Room::Left(left),
-            NextRecord::Wrong => return Room::Left(left),
+            NextRecord::End => return Some(left),
+            NextRecord::Cut => return Some(left),
+            NextRecord::Wrong => return Some(left),
             NextRecord::Record {
                 index,
                 direction,
@@ -48,12 +48,7 @@ fn fit(room: usize, ids: &[u8], records: &[u8], version: Version, boards: u16) -
                 rest: after,
             } => {
                 let bytes = block::part(rest, packet, after);
-                let Room::Left(more) = rows::room_after_record(
-                    left, ids, index, direction, counter, bytes,
-                ) else {
-                    return Room::NoRoom;
-                };
-                left = more;
+                left = rows::room_after_record(left, ids, index, direction, counter, bytes)?;
                 let next = block::part(rest, after, 0);
                 rest = next;
             }
@@ -65,13 +60,7 @@ fn fit(room: usize, ids: &[u8], records: &[u8], version: Version, boards: u16) -
 fn refused_after(count: u64, refused: bool) -> u64
     ensures { result ≡ refused_after count refused }
 {
-    if !refused {
-        return count;
-    }
-    if count < u64::MAX {
-        return count + 1;
-    }
-    count
+    count.saturating_add(u64::from(refused))
 }
 
 // Records that were put: where their rows end, how many responses are refused, those before them too, and how they end.
@@ -144,13 +133,8 @@ fn export_records(
     if buffer.len() < tables::HEADER_SIZE {
         return Exported::NoRoom;
     }
-    let Room::Left(_) = fit(
-        buffer.len() - tables::HEADER_SIZE,
-        ids,
-        records,
-        version,
-        boards,
-    ) else {
+    let room = buffer.len() - tables::HEADER_SIZE;
+    let Some(_) = fit(room, ids, records, version, boards) else {
         return Exported::NoRoom;
     };
     octets::overwrite(buffer, 0, &tables::header());

@@ -15,13 +15,6 @@ use tool::response::Response;
 // The longest start of a row: `"x`, an ID, `","1","`, a counter, `","0x`.
 const LONGEST_START: usize = 2 + 2 * framing::ID_SIZE + 7 + numerals::DIGITS + 5;
 
-// What is left of some room.
-#[derive(Clone, Copy)]
-pub(crate) enum Room {
-    Left(usize),
-    NoRoom,
-}
-
 // Rows that were put.
 #[derive(Clone, Copy)]
 pub(crate) struct Put {
@@ -30,46 +23,43 @@ pub(crate) struct Put {
     pub(crate) refused: bool,
 }
 
-// What stands first in what is left of a well-formed block.
+// A report. `value` bytes of the block are left where its value starts, and `rest` after it; this page is then in force.
 #[derive(Clone, Copy)]
-enum NextRow {
-    // A report. `value` bytes of the block are left where its value starts, and `rest` after it; this page is then in force.
-    Row {
-        page: u8,
-        low: u8,
-        value: usize,
-        rest: usize,
-    },
-    End,
+struct NextRow {
+    page: u8,
+    low: u8,
+    value: usize,
+    rest: usize,
 }
 
-fn next_row(left: &[u8], page: u8) -> NextRow
+// The report that stands first in what is left of a well-formed block; none at its end.
+fn next_row(left: &[u8], page: u8) -> Option<NextRow>
     ensures { result ≡ next_row (next_report page left.now) }
 {
     match reports::next_report(left, page) {
-        NextReport::End => NextRow::End,
-        NextReport::Malformed => NextRow::End,
+        NextReport::End => None,
+        NextReport::Malformed => None,
         NextReport::Held {
             page: next_page,
             low,
             value,
             rest,
-        } => NextRow::Row {
+        } => Some(NextRow {
             page: next_page,
             low,
             value,
             rest,
-        },
+        }),
         NextReport::Unknown {
             page: next_page,
             low,
             rest,
-        } => NextRow::Row {
+        } => Some(NextRow {
             page: next_page,
             low,
             value: rest,
             rest,
-        },
+        }),
     }
 }
 
@@ -85,7 +75,7 @@ fn id_of(ids: &[u8], index: u16) -> &[u8]
 fn counter_digits(counter: u32) -> numerals::Numeral
     ensures { Holds (decimal counter) result }
 {
-    numerals::decimal(counter as u64)
+    numerals::decimal(u64::from(counter))
 }
 
 // How many bytes stand before the number in each row of a response.
@@ -158,12 +148,14 @@ fn put_rows(text: &mut [u8], at: usize, start: &[u8], block: &[u8]) -> usize
     let mut left = block;
     let mut page: u8 = 0;
     loop {
-        let NextRow::Row {
-            page: next_page,
-            low,
-            value,
-            rest,
-        } = next_row(left, page)
+        let Some(
+            NextRow {
+                page: next_page,
+                low,
+                value,
+                rest,
+            },
+        ) = next_row(left, page)
         else {
             return place;
         };
@@ -175,27 +167,18 @@ fn put_rows(text: &mut [u8], at: usize, start: &[u8], block: &[u8]) -> usize
     }
 }
 
-// What is left of some room after a row, of which the start and the value have so many bytes: 4 digits, `","x` and `"` CR LF stand around the
-// value.
-fn room_after_row(room: usize, start: usize, value: usize) -> Room
+// What is left of some room after a row, of which the start and the value have so many bytes; none where the room is too small. 4 digits,
+// `","x` and `"` CR LF stand around the value.
+fn room_after_row(room: usize, start: usize, value: usize) -> Option<usize>
     ensures { (row : List ℕ) → length row ≡ row_size start value → result ≡ room_after room row }
 {
-    if room < start {
-        return Room::NoRoom;
-    }
-    let after_start = room - start;
-    if after_start < 11 {
-        return Room::NoRoom;
-    }
-    let for_value = after_start - 11;
-    if for_value / 2 < value {
-        return Room::NoRoom;
-    }
-    Room::Left(for_value - 2 * value)
+    room.checked_sub(start)?
+        .checked_sub(11)?
+        .checked_sub(value.checked_mul(2)?)
 }
 
-// What is left of some room after the rows of a block, of which each start has so many bytes.
-fn room_after_rows(room: usize, size: usize, block: &[u8]) -> Room
+// What is left of some room after the rows of a block, of which each start has so many bytes; none where the room is too small.
+fn room_after_rows(room: usize, size: usize, block: &[u8]) -> Option<usize>
     requires { is_some (reports block.now) ≡ true }
     ensures { (start : List ℕ) → length start ≡ size → result ≡ room_after room (left_text start 0 block.now) }
 {
@@ -203,27 +186,26 @@ fn room_after_rows(room: usize, size: usize, block: &[u8]) -> Room
     let mut left = block;
     let mut page: u8 = 0;
     loop {
-        let NextRow::Row {
-            page: next_page,
-            low: _,
-            value,
-            rest,
-        } = next_row(left, page)
+        let Some(
+            NextRow {
+                page: next_page,
+                low: _,
+                value,
+                rest,
+            },
+        ) = next_row(left, page)
         else {
-            return Room::Left(space);
+            return Some(space);
         };
         let bytes = block::part(left, value, rest);
-        let Room::Left(after_row) = room_after_row(space, size, bytes.len()) else {
-            return Room::NoRoom;
-        };
-        space = after_row;
+        space = room_after_row(space, size, bytes.len())?;
         let after = block::part(left, rest, 0);
         left = after;
         page = next_page;
     }
 }
 
-// What is left of some room after the rows of a record.
+// What is left of some room after the rows of a record; none where the room is too small.
 pub(crate) fn room_after_record(
     room: usize,
     ids: &[u8],
@@ -231,14 +213,14 @@ pub(crate) fn room_after_record(
     direction: u8,
     counter: u32,
     packet: &[u8],
-) -> Room
+) -> Option<usize>
     ensures { result ≡ room_after room (record_lines ids.now (record_of index direction counter packet.now)) }
 {
     if direction != 1 {
-        return Room::Left(room);
+        return Some(room);
     }
     let Response::Accepted { block, end } = tool::response::read_any(packet) else {
-        return Room::Left(room);
+        return Some(room);
     };
     let size = start_size(id_of(ids, index), counter);
     room_after_rows(room, size, &packet[block..end])

@@ -9,6 +9,7 @@ ghost use Rattle.tables.specs.Ending.{number_line, last_lines, Holds};
 pub const HEADER_SIZE: usize = 48;
 
 // The header of a table.
+#[tactic(auto, unfolding(crate::specs::Fields::quoted))]
 pub fn header() -> [u8; HEADER_SIZE]
     ensures { result ≡ header_line }
 {
@@ -33,12 +34,6 @@ fn put_line(text: &mut [u8], at: usize, word: &[u8], number: u64) -> usize
     end + 1
 }
 
-fn to_u64(byte: u8) -> u64
-    ensures { result ≡ byte }
-{
-    byte as u64
-}
-
 // The lines behind a table, in the first `size` bytes.
 #[derive(Clone, Copy)]
 pub struct LastLines {
@@ -55,6 +50,6 @@ pub fn last_lines(refused: u64, capture: u8) -> LastLines
     if capture == 0 {
         return LastLines { bytes, size: end };
     }
-    let size = put_line(&mut bytes, end, b"capture,", to_u64(capture));
+    let size = put_line(&mut bytes, end, b"capture,", u64::from(capture));
     LastLines { bytes, size }
 }

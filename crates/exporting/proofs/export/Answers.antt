@@ -10,7 +10,7 @@ returns-in-Refused c = refused_exports c.args.capture.now (sym c.open.ensures �
 pub returns-in-Capture : goal.returns-in-Capture
 returns-in-Capture c =
     capture_exports c.args.capture.now (sym c.open.ensures ∙ c.in-Capture.is)
-    (ap (λ (n : ℕ). 16 * n) c.u16_to_usize-size.ensures)
-    (c.first_bytes-board_ids.ensures ∙ ap (take (16 * c.u16_to_usize-size.result)) c.bytes_after.ensures)
+    (ap (λ (n : ℕ). 16 * n) c.from-size.ensures)
+    (c.first_bytes-board_ids.ensures ∙ ap (take (16 * c.from-size.result)) c.bytes_after.ensures)
     c.bytes_after-rest.ensures
     c.export_records.ensures

@@ -20,6 +20,6 @@ pub returns : goal.returns
 returns c =
     let args = c.args in
     let reading = read args.version args.boards args.records.now in
-    let roomy = rows_have_room args.buffer.now args.ids.now reading c.if-buffer-lt-HEADER_SIZE.false (sym c.fit.ensures ∙ c.in-Left.is) in
+    let roomy = rows_have_room args.buffer.now args.ids.now reading c.if-buffer-lt-HEADER_SIZE.false (sym c.fit.ensures ∙ c.in-Some.is) in
     let first = header_put args.buffer.now args.ids.now reading roomy c.header.ensures c.overwrite.ensures in
     records_put args.buffer.now args.ids.now reading roomy first c.put_records-put.ensures c.ending_number.ensures

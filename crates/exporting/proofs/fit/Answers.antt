@@ -30,12 +30,12 @@ returns-in-Wrong c =
     let last = read_by args.version args.boards v.rest.now (sym c.next_record.ensures ∙ c.in-Wrong.is) in
     fits_all args.version args.boards args.ids.now v.rest.now v.left v.invariant wrong last refl
 
-pub returns-in_default : goal.returns-in_default
-returns-in_default c =
+pub returns-in_err-left-in-Record : goal.returns-in_err-left-in-Record
+returns-in_err-left-in-Record c =
     let v = c.loop-index in
     let args = c.args in
     let found = sym c.next_record.ensures ∙ c.in-Record.is in
-    fits_none args.version args.boards args.ids.now v.rest.now v.left v.invariant found c.part-bytes.ensures c.room_after_record.ensures c.in_default.is
+    c.from_residual.ensures ∙ fits_none args.version args.boards args.ids.now v.rest.now v.left v.invariant found c.part-bytes.ensures c.room_after_record.ensures c.in_err-left-in-Record.was
 
 pub loop-index-smaller : goal.loop-index-smaller
 loop-index-smaller c =
@@ -48,4 +48,4 @@ loop-index-preserved c =
     let args = c.args in
     let found = sym c.next_record.ensures ∙ c.in-Record.is in
     rw c.part-next.ensures
-    (fits_on args.version args.boards args.ids.now v.rest.now v.left v.invariant found c.part-bytes.ensures c.room_after_record.ensures c.in-Left.is)
+    (fits_on args.version args.boards args.ids.now v.rest.now v.left v.invariant found c.part-bytes.ensures c.room_after_record.ensures c.in_ok-left-in-Record.was)

@@ -11,17 +11,17 @@ returns-in_default c =
 pub put_row-place-requires : goal.put_row-place-requires
 put_row-place-requires c =
     let v = c.loop-next_page in
-    let step = row_next v.page v.left.now v.invariant.0 c.next_row.ensures c.in-Row.is in
+    let step = row_next v.page v.left.now v.invariant.0 c.next_row.ensures c.in-Some.is in
     row_fits _ v.invariant.1 step c.part-bytes.ensures
 
 pub loop-next_page-smaller : goal.loop-next_page-smaller
 loop-next_page-smaller c =
     let v = c.loop-next_page in
-    let step = row_next v.page v.left.now v.invariant.0 c.next_row.ensures c.in-Row.is in
+    let step = row_next v.page v.left.now v.invariant.0 c.next_row.ensures c.in-Some.is in
     rw c.part-after.ensures step.shorter
 
 pub loop-next_page-preserved : goal.loop-next_page-preserved
 loop-next_page-preserved c =
     let v = c.loop-next_page in
-    let step = row_next v.page v.left.now v.invariant.0 c.next_row.ensures c.in-Row.is in
+    let step = row_next v.page v.left.now v.invariant.0 c.next_row.ensures c.in-Some.is in
     rw c.part-after.ensures (step.formed, row_on _ v.invariant.1 step c.part-bytes.ensures c.put_row-place.ensures)
