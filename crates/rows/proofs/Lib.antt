@@ -4,6 +4,5 @@ pub mod Found
 pub mod SetColumns
 pub mod Rule
 pub mod Neighbours
-pub mod Texts
 pub mod Quantities
 pub mod Stars

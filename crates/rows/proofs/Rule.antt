@@ -13,7 +13,7 @@ use Rattle.calendar.specs.Dates.{days_of_months, days_of_years}
 use Rattle.rows.specs.Rows.{Set, Switch, Number, Text, Free, Clock, Calendar, Time, Row, rows, no_row, row_at, has}
 use Rattle.rows.specs.Sets.{greatest, printable, member}
 use Rattle.rows.specs.Layout.{row_count, longest, size_of}
-use Rattle.rows.specs.Columns.{kind_of, range_of}
+use Rattle.rows.specs.Columns.{range_of}
 use Rattle.rows.specs.Start.{lowest, start_value}
 use Rattle.rows.specs.Rule.{Fits, Follows, RowsFollow, NumbersAscend}
 use Rattle.octets.proofs.Booleans.{both_true}
@@ -50,7 +50,13 @@ fits_right Time t = tt
 
 -- any bytes of a size
 free : ℕ → Set → Bool
-free n s = eqb (kind_of s) 3 && eqb (size_of s) n
+free n Switch = false
+free n (Number size r) = false
+free n (Text shortest most) = false
+free n (Free size) = eqb size n
+free n Clock = false
+free n Calendar = false
+free n Time = false
 
 free_member : (n : ℕ) (s : Set) (v : List ℕ) → T (free n s) → length v ≡ n → member s v ≡ true
 unfolding free

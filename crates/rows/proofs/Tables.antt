@@ -10,10 +10,8 @@ use mathlib.Core.Path.{◌≡◌, refl, sym, ◌∙◌}
 use lib.Dec.{T}
 use lib.ListN.{length, get_or, drop, drop_of_length-le, get_or-eq_default}
 use lib.Seq.{drop-cons}
-use Rattle.rows.specs.declared.Range.{Range}
 use Rattle.rows.specs.Rows.{Row, rows, no_row, row_at, named, index_in}
-use Rattle.rows.specs.Layout.{row_count, set_at, places_from}
-use Rattle.rows.specs.Columns.{range_of}
+use Rattle.rows.specs.Layout.{row_count, places_from}
 use Rattle.rows.proofs.Bools.{both}
 
 -- an index is a row's, or past the last
@@ -22,18 +20,18 @@ in_or_past k zero = inr (omega arith)
 in_or_past zero (suc n) = inl (omega arith)
 in_or_past (suc k) (suc n) = ⊎_elim (λ h. inl (omega arith)) (λ h. inr (omega arith)) (in_or_past k n)
 
--- a column's entry is the property of the row at that index
-in_column : (f : Row → ℕ) (l : List Row) (k : ℕ) → k < length l → get_or (map f l) k 0 ≡ f (get_or l k no_row)
-in_column f [] k h = absurd (not-suc-le-zero h)
-in_column f (r ∷ rs) zero h = refl
-in_column f (r ∷ rs) (suc k) h = in_column f rs k (le_of_suc-le-suc h)
-
 pub rows_length : length rows ≡ row_count
 unfolding rows
 rows_length = refl
 
-pub column : (f : Row → ℕ) (k : ℕ) → k < row_count → get_or (map f rows) k 0 ≡ f (row_at k)
-column f k h = in_column f rows k (rw rows_length h)
+-- a column's entry is the property of the row at that index, and past the last row that of the row without unit types
+in_column : {A : Type 0} (f : Row → A) (l : List Row) (k : ℕ) → get_or (map f l) k (f no_row) ≡ f (get_or l k no_row)
+in_column f [] k = refl
+in_column f (r ∷ rs) zero = refl
+in_column f (r ∷ rs) (suc k) = in_column f rs k
+
+pub column : {A : Type 0} (f : Row → A) (k : ℕ) → get_or (map f rows) k (f no_row) ≡ f (row_at k)
+column f k = in_column f rows k
 
 -- past the last row there is none
 pub no_row_lem : (k : ℕ) → row_count ≤ k → no_row ≡ row_at k
@@ -42,25 +40,6 @@ no_row_lem k h = sym (get_or-eq_default rows no_row (rw rows_length h))
 pub places_length : length (places_from 0 0 rows) ≡ row_count
 unfolding rows places_from
 places_length = refl
-
--- the four columns of a range
-abbrev pub in_columns : ℕ → Range
-in_columns k =
-    record {
-      extra = get_or (map (λ (r : Row). (range_of r.set).extra) rows) k 0;
-      low = get_or (map (λ (r : Row). (range_of r.set).low) rows) k 0;
-      high = get_or (map (λ (r : Row). (range_of r.set).high) rows) k 0;
-      step = get_or (map (λ (r : Row). (range_of r.set).step) rows) k 0;
-    }
-
-pub range_columns : (k : ℕ) → k < row_count → in_columns k ≡ range_of (set_at k)
-range_columns k h =
-    simp (
-      column (λ (r : Row). (range_of r.set).extra) k h,
-      column (λ (r : Row). (range_of r.set).low) k h,
-      column (λ (r : Row). (range_of r.set).high) k h,
-      column (λ (r : Row). (range_of r.set).step) k h,
-    )
 
 -- looking for a unit type's row from an index on
 abbrev pub index_from : ℕ → ℕ → ℕ → ℕ

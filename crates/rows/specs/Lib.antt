@@ -4,4 +4,3 @@ pub mod Layout
 pub mod Columns
 pub mod Start
 pub mod Rule
-pub mod Next

@@ -1,6 +1,6 @@
 -- Membership in a set, and the neighbours of a number in it.
-use Rattle.std.specs.Prelude.{ℕ, zero, suc, ◌+◌, ◌*◌, ◌-◌, ◌/◌, ◌%◌, Bool, true, cond, ◌&&◌, ◌||◌, List, [], ◌∷◌, eqb, leb, ltb, length, get_or, take}
-use Rattle.std.proofs.Math.Option.{Option, none, some}
+use Rattle.std.specs.Prelude.{ℕ, zero, suc, ◌+◌, ◌*◌, ◌-◌, ◌/◌, ◌%◌, Bool, cond, ◌&&◌, ◌||◌, List, [], ◌∷◌, eqb, leb, ltb, length, get_or, take, Option, Some, None}
+use Rattle.std.specs.List.{list_all}
 use Rattle.octets.specs.Octets.{between}
 use Rattle.calendar.specs.Dates.{is_date}
 use Rattle.rows.specs.declared.Range.{Range}
@@ -19,8 +19,7 @@ in_range r x = eqb x r.extra || between r.low r.high x && eqb ((x - r.low) % r.s
 
 -- every byte is a character, 20 to 7E
 unfoldable pub printable : List ℕ → Bool
-printable [] = true
-printable (x ∷ xs) = between 0x20 0x7E x && printable xs
+printable = list_all (between 0x20 0x7E)
 
 -- seconds, minutes, hours
 abbrev pub is_clock : List ℕ → Bool
@@ -45,13 +44,13 @@ member Time v = eqb (length v) 2 && is_time v
 
 -- the first of x + 1, .., x + n that passes a test
 unfoldable pub first_after : (ℕ → Bool) → ℕ → ℕ → Option ℕ
-first_after test x zero = none
-first_after test x (suc n) = cond (test (suc x)) (some (suc x)) (first_after test (suc x) n)
+first_after test x zero = None
+first_after test x (suc n) = cond (test (suc x)) (Some (suc x)) (first_after test (suc x) n)
 
 -- the first of x - 1, x - 2, .., 0 that passes a test
 unfoldable pub first_before : (ℕ → Bool) → ℕ → Option ℕ
-first_before test zero = none
-first_before test (suc x) = cond (test x) (some x) (first_before test x)
+first_before test zero = None
+first_before test (suc x) = cond (test x) (Some x) (first_before test x)
 
 -- the greatest number of a range
 abbrev pub greatest : Range → ℕ

@@ -16,18 +16,17 @@ pub const MICRA: u8 = 2;
 // How many rows there are.
 pub const ROWS: usize = columns::ROWS;
 
-// The kinds of sets, as the column KIND has them; 6 is the time.
-pub const SWITCH: u8 = 0;
-
-pub const NUMBER: u8 = 1;
-
-pub const TEXT: u8 = 2;
-
-pub const FREE: u8 = 3;
-
-pub const CLOCK: u8 = 4;
-
-pub const CALENDAR: u8 = 5;
+// The kinds of sets.
+#[derive(Clone, Copy, Debug, PartialEq, Eq)]
+pub enum Kind {
+    Switch,
+    Number,
+    Text,
+    Free,
+    Clock,
+    Calendar,
+    Time,
+}
 
 // The numbers low, low + step, .. up to high, and one more, which is low itself where there is none.
 #[derive(Clone, Copy)]

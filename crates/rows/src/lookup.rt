@@ -1,54 +1,61 @@
 // The properties of the row at an index, and looking a number up. Past the last row: those of a row without unit types, functions and bytes.
-ghost use Rattle.std.specs.Prelude.{◌≡◌};
+ghost use Rattle.std.specs.Prelude.{◌≡◌, get_or};
 ghost use Rattle.rows.specs.Rows.{row_at, index_of, allows as allows_of, has as has_of, named};
 ghost use Rattle.rows.specs.Layout.{set_at, place_at, size_of};
-ghost use Rattle.rows.specs.Columns.{kind_of, range_of, quantity_of};
+ghost use Rattle.rows.specs.Columns.{kind_of, kind_from, range_of, quantity_of};
 
-use crate::{FREE, Quantity, Range, columns};
+use crate::{Kind, Quantity, Range, columns};
+
+// The entry of a column at an index, or what stands past the last row.
+fn entry_at<T: Copy>(column: &[T], index: usize, past: T) -> T
+    ensures { result ≡ get_or column.now index past }
+{
+    column.get(index).copied().unwrap_or(past)
+}
 
 fn first_at(index: usize) -> u8
     ensures { result ≡ (row_at index).first }
 {
-    if index < columns::ROWS {
-        return columns::FIRST[index];
-    }
-    1
+    entry_at(&columns::FIRST, index, 1)
 }
 
 fn last_at(index: usize) -> u8
     ensures { result ≡ (row_at index).last }
 {
-    if index < columns::ROWS {
-        return columns::LAST[index];
-    }
-    0
+    entry_at(&columns::LAST, index, 0)
 }
 
 fn number_at(index: usize) -> u16
     ensures { result ≡ (row_at index).number }
 {
-    if index < columns::ROWS {
-        return columns::NUMBERS[index];
-    }
-    0
+    entry_at(&columns::NUMBERS, index, 0)
 }
 
 fn functions_at(index: usize) -> u8
     ensures { result ≡ (row_at index).functions }
 {
-    if index < columns::ROWS {
-        return columns::FUNCTIONS[index];
-    }
-    0
+    entry_at(&columns::FUNCTIONS, index, 0)
 }
 
-pub fn kind_at(index: usize) -> u8
+// The kinds, as the column KIND has them.
+fn kind_of(number: u8) -> Kind
+    ensures { result ≡ kind_from number }
+{
+    match number {
+        0 => Kind::Switch,
+        1 => Kind::Number,
+        2 => Kind::Text,
+        3 => Kind::Free,
+        4 => Kind::Clock,
+        5 => Kind::Calendar,
+        _ => Kind::Time,
+    }
+}
+
+pub fn kind_at(index: usize) -> Kind
     ensures { result ≡ kind_of (set_at index) }
 {
-    if index < columns::ROWS {
-        return columns::KIND[index];
-    }
-    FREE
+    kind_of(entry_at(&columns::KIND, index, 3))
 }
 
 // The quantities, as the column QUANTITY has them.
@@ -65,46 +72,29 @@ fn quantity_of(number: u8) -> Quantity
 pub fn quantity_at(index: usize) -> Quantity
     ensures { result ≡ (row_at index).quantity }
 {
-    if index < columns::ROWS {
-        return quantity_of(columns::QUANTITY[index]);
-    }
-    Quantity::Plain
+    quantity_of(entry_at(&columns::QUANTITY, index, 0))
 }
 
 pub fn size_at(index: usize) -> usize
     ensures { result ≡ size_of (set_at index) }
 {
-    if index < columns::ROWS {
-        return usize::from(columns::SIZE[index]);
-    }
-    0
+    usize::from(entry_at(&columns::SIZE, index, 0))
 }
 
 pub fn place_at(index: usize) -> usize
     ensures { result ≡ place_at index }
 {
-    if index < columns::ROWS {
-        return usize::from(columns::PLACE[index]);
-    }
-    0
+    usize::from(entry_at(&columns::PLACE, index, 0))
 }
 
 pub fn range_at(index: usize) -> Range
     ensures { result ≡ range_of (set_at index) }
 {
-    if index < columns::ROWS {
-        return Range {
-            extra: u16::from(columns::EXTRA[index]),
-            low: u16::from(columns::LOW[index]),
-            high: columns::HIGH[index],
-            step: u16::from(columns::STEP[index]),
-        };
-    }
     Range {
-        extra: 0,
-        low: 0,
-        high: 0,
-        step: 1,
+        extra: u16::from(entry_at(&columns::EXTRA, index, 0)),
+        low: u16::from(entry_at(&columns::LOW, index, 0)),
+        high: entry_at(&columns::HIGH, index, 0),
+        step: u16::from(entry_at(&columns::STEP, index, 1)),
     }
 }
 
@@ -112,31 +102,26 @@ pub fn range_at(index: usize) -> Range
 pub fn has(unit: u8, index: usize) -> bool
     ensures { result ≡ has_of unit (row_at index) }
 {
-    octets::is_between(first_at(index), last_at(index), unit)
+    (first_at(index)..=last_at(index)).contains(&unit)
 }
 
 // Whether the row at an index is a unit type's row with a number.
 fn is_named(unit: u8, number: u16, index: usize) -> bool
     ensures { result ≡ named unit number (row_at index) }
 {
-    if number_at(index) != number {
-        return false;
-    }
-    has(unit, index)
+    number_at(index) == number && has(unit, index)
 }
 
 // The index of a unit type's row with a number, or the number of rows where there is none.
 pub fn index_of(unit: u8, number: u16) -> usize
     ensures { result ≡ index_of unit number }
 {
-    let mut index: usize = 0;
-    while index < columns::ROWS {
+    for index in 0..columns::ROWS {
         if is_named(unit, number, index) {
             return index;
         }
-        index += 1;
     }
-    index
+    columns::ROWS
 }
 
 // Whether a unit type's row with a number allows a function.

@@ -14,7 +14,7 @@ loop-index-preserved c =
     let start = c.args in
     let index = c.loop-index.index in
     let on = index_on start.unit start.number index c.loop-index-test.true (sym c.is_named.ensures ∙ c.if-is_named.false) in
-    (omega arith, omega arith)
+    omega arith
 
 pub returns : goal.returns
 returns c = omega (arith, index_end c.args.unit c.args.number c.loop-index.index c.loop-index-test.false)

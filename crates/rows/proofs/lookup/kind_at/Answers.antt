@@ -1,12 +1,15 @@
-use mathlib.Core.Path.{ap}
+use mathlib.Core.Path.{ap, ◌∙◌}
+use Rattle.rows.specs.Columns.{kind_of, kind_number, kind_from}
+use Rattle.rows.specs.Layout.{set_at}
 use Rattle.rows.specs.Rows.{Row, rows}
-use Rattle.rows.specs.Columns.{kind_of}
-use Rattle.rows.proofs.Tables.{column, no_row_lem}
+use Rattle.rows.proofs.SetColumns.{kind_back}
+use Rattle.rows.proofs.Tables.{column}
 use Rattle.rows.proofs.lookup.kind_at.Goals as goal
 
-pub returns-then-index-lt-ROWS : goal.returns-then-index-lt-ROWS
-unfolding rows
-returns-then-index-lt-ROWS c = column (λ (r : Row). kind_of r.set) c.args.index c.if-index-lt-ROWS.true
-
 pub returns : goal.returns
-returns c = ap (λ (r : Row). kind_of r.set) (no_row_lem c.args.index c.if-index-lt-ROWS.false)
+unfolding rows
+returns c =
+    let index = c.args.index in
+    c.kind_of.ensures
+    ∙ ap kind_from (c.entry_at.ensures ∙ column (λ (r : Row). kind_number (kind_of r.set)) index)
+    ∙ kind_back (kind_of (set_at index))

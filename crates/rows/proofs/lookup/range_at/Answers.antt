@@ -1,12 +1,16 @@
-use mathlib.Core.Path.{ap}
-use Rattle.rows.specs.Rows.{Row, rows}
+use mathlib.Core.Path.{◌∙◌}
 use Rattle.rows.specs.Columns.{range_of}
-use Rattle.rows.proofs.Tables.{range_columns, no_row_lem}
+use Rattle.rows.specs.Rows.{Row, rows}
+use Rattle.rows.proofs.Tables.{column}
 use Rattle.rows.proofs.lookup.range_at.Goals as goal
 
-pub returns-then-index-lt-ROWS : goal.returns-then-index-lt-ROWS
-unfolding rows
-returns-then-index-lt-ROWS c = rw (c.to_u16-then-index-lt-ROWS-2.ensures, c.to_u16-then-index-lt-ROWS.ensures, c.to_u16.ensures) (range_columns c.args.index c.if-index-lt-ROWS.true)
-
 pub returns : goal.returns
-returns c = ap (λ (r : Row). range_of r.set) (no_row_lem c.args.index c.if-index-lt-ROWS.false)
+unfolding rows
+returns c =
+    let index = c.args.index in
+    rw (
+      c.from.ensures ∙ c.entry_at.ensures ∙ column (λ (r : Row). (range_of r.set).extra) index,
+      c.from-2.ensures ∙ c.entry_at-2.ensures ∙ column (λ (r : Row). (range_of r.set).low) index,
+      c.entry_at-3.ensures ∙ column (λ (r : Row). (range_of r.set).high) index,
+      c.from-3.ensures ∙ c.entry_at-4.ensures ∙ column (λ (r : Row). (range_of r.set).step) index,
+    )

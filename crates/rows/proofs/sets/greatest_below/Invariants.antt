@@ -4,6 +4,3 @@ use Rattle.rows.proofs.sets.greatest_below.Given as goal
 
 abbrev pub invariant-loop-next : goal.invariant-loop-next
 invariant-loop-next l = greatest_below l.range l.number ≡ first_before (in_range l.range) l.next
-
-abbrev pub decreases-loop-next : goal.decreases-loop-next
-decreases-loop-next l = l.next

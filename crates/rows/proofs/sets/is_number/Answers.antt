@@ -10,11 +10,11 @@ use Rattle.rows.proofs.sets.is_number.Goals as goal
 pub in_range-requires : goal.in_range-requires
 in_range-requires c = rw c.range_at.ensures (step_pos c.args.index)
 
-pub returns : goal.returns
-returns c =
+pub returns-in-WholeDegrees : goal.returns-in-WholeDegrees
+returns-in-WholeDegrees c =
     let start = c.args in
     let fits = c.if-value-size_at.false ∙ c.size_at.ensures in
     c.takes.ensures
     ∙ ap (in_range (range_of (set_at start.index)))
-    (c.byte_at-degrees.ensures ∙ degrees_number start.index start.value.now (sym c.quantity_at-quantity.ensures ∙ c.in-WholeDegrees.is) fits)
+    (c.byte_at-degrees.ensures ∙ degrees_number start.index start.value.now (sym c.quantity_at.ensures ∙ c.in-WholeDegrees.is) fits)
     ∙ simp (eq-eqb _ _ fits)

@@ -1,25 +1,22 @@
 use mathlib.Core.Bool.{true, false}
 use mathlib.Core.Path.{sym, ap, ◌∙◌}
+use Prim.Native.Nat.{ℕ, ◌-◌}
 use Rattle.rows.proofs.Neighbours.{after_turn, after_end}
-use Rattle.rows.specs.Next.{next_of}
-use Rattle.rows.specs.Sets.{in_range}
+use Rattle.rows.specs.Sets.{in_range, first_after}
 use Rattle.rows.proofs.sets.least_above.Goals as goal
+
+pub loop-below-init : goal.loop-below-init
+loop-below-init c = ap (λ (most : ℕ). first_after (in_range c.args.range) c.args.number (most - c.args.number)) (sym c.greatest-below-end.ensures)
 
 pub returns-then-in_range : goal.returns-then-in_range
 returns-then-in_range c =
-    let start = c.args in
-    let most = c.greatest-most.result in
     let here = sym c.in_range.ensures ∙ c.if-in_range.true in
-    sym (ap next_of (c.loop-next.invariant.1 ∙ after_turn (in_range start.range) c.loop-next.next most true c.loop-next-test.true here))
+    sym (c.loop-below.invariant ∙ after_turn (in_range c.args.range) c.loop-below.below c.greatest-below-end.result true c.loop-below-test.true here)
 
-pub loop-next-preserved : goal.loop-next-preserved
-loop-next-preserved c =
-    let start = c.args in
-    let most = c.greatest-most.result in
+pub loop-below-preserved : goal.loop-below-preserved
+loop-below-preserved c =
     let passed = sym c.in_range.ensures ∙ c.if-in_range.false in
-    (c.loop-next.invariant.0, c.loop-next.invariant.1 ∙ after_turn (in_range start.range) c.loop-next.next most false c.loop-next-test.true passed)
+    c.loop-below.invariant ∙ after_turn (in_range c.args.range) c.loop-below.below c.greatest-below-end.result false c.loop-below-test.true passed
 
 pub returns : goal.returns
-returns c =
-    let start = c.args in
-    sym (ap next_of (c.loop-next.invariant.1 ∙ after_end (in_range start.range) c.loop-next.next c.greatest-most.result c.loop-next-test.false))
+returns c = sym (c.loop-below.invariant ∙ after_end (in_range c.args.range) c.loop-below.below c.greatest-below-end.result c.loop-below-test.false)
