@@ -6,7 +6,7 @@ mod stream;
 
 use std::io;
 use std::process::ExitCode;
-use stream::Streamed;
+use stream::StreamError;
 
 // The window holds the longest head.
 const WINDOW: usize = 16384;
@@ -34,9 +34,9 @@ fn end_table(rt: &HostRuntime, refused: u64, capture: u8) -> ExitCode {
 fn export(rt: &HostRuntime, text: &mut [u8], window: &mut [u8], ids: &mut [u8]) -> ExitCode {
     let mut stdin = rt.stdin();
     match stream::write_table(&mut stdin, rt.stdout(), text, window, ids) {
-        Streamed::Until { refused, capture } => end_table(rt, refused, capture),
-        Streamed::ReadFailed(error) => failed(rt, "standard input", error),
-        Streamed::WriteFailed(error) => failed(rt, "standard output", error),
+        Ok(ended) => end_table(rt, ended.refused, ended.capture),
+        Err(StreamError::Read(error)) => failed(rt, "standard input", error),
+        Err(StreamError::Write(error)) => failed(rt, "standard output", error),
     }
 }
 

@@ -3,19 +3,23 @@ use captures::Version;
 use captures::reading::Opened;
 use counts::counting::Ending;
 use exporting::window::Rows;
-use input::Filled;
 use std::io;
 use std::io::{Stdin, Stdout};
 
-// How the table ends.
+// How the table ends: so many responses are refused, and the capture with this number, 0 for none.
+#[derive(Clone, Copy)]
+pub(crate) struct Ended {
+    pub refused: u64,
+    pub capture: u8,
+}
+
+// Why the table does not end.
 #[derive(Drop)]
-pub(crate) enum Streamed {
-    // So many responses are refused, and the capture with this number, 0 for none.
-    Until { refused: u64, capture: u8 },
+pub(crate) enum StreamError {
     // Standard input could not be read to its end.
-    ReadFailed(io::Error),
+    Read(io::Error),
     // The table could not be written.
-    WriteFailed(io::Error),
+    Write(io::Error),
 }
 
 // Writes the rows of the records that stand in the window from `records` to `filled`, and then of those that are read behind the bytes that
@@ -30,12 +34,11 @@ fn write_rows(
     ids: &[u8],
     version: Version,
     boards: u16,
-) -> Streamed {
+) -> Result<Ended, StreamError> {
     let mut start = records;
     let mut end = filled;
     let mut refused: u64 = 0;
-    let mut turns = u64::MAX;
-    while 0 < turns {
+    for _ in 0..u64::MAX {
         let rows = exporting::window::export_window(
             text, window, start, end, ids, version, boards, refused,
         );
@@ -45,28 +48,24 @@ fn write_rows(
             ending,
         } = rows
         else {
-            return Streamed::WriteFailed(io::Error::from(io::ErrorKind::Other));
+            return Err(StreamError::Write(io::Error::from(io::ErrorKind::Other)));
         };
         refused = so_far;
-        if let Err(error) = stdout.write_all(octets::first_bytes(text, length)) {
-            return Streamed::WriteFailed(error);
-        }
+        stdout
+            .write_all(octets::first_bytes(text, length))
+            .map_err(StreamError::Write)?;
         let capture = counts::counting::ending_number(ending);
         let Ending::Left(left) = ending else {
-            return Streamed::Until { refused, capture };
+            return Ok(Ended { refused, capture });
         };
-        let until = match input::fill(stdin, window, left) {
-            Filled::Until(until) => until,
-            Filled::ReadFailed(error) => return Streamed::ReadFailed(error),
-        };
+        let until = input::fill(stdin, window, left).map_err(StreamError::Read)?;
         if until <= left {
-            return Streamed::Until { refused, capture };
+            return Ok(Ended { refused, capture });
         }
         start = 0;
         end = until;
-        turns -= 1;
     }
-    Streamed::ReadFailed(io::Error::from(io::ErrorKind::Other))
+    Err(StreamError::Read(io::Error::from(io::ErrorKind::Other)))
 }
 
 // Writes the rows of the capture whose first `filled` bytes stand in the window, and whose other bytes are read. The window is read into
@@ -78,12 +77,12 @@ fn write_records(
     window: &mut [u8],
     ids: &mut [u8],
     filled: usize,
-) -> Streamed {
+) -> Result<Ended, StreamError> {
     match captures::reading::open(octets::first_bytes(window, filled)) {
-        Opened::Refused(number) => Streamed::Until {
+        Opened::Refused(number) => Ok(Ended {
             refused: 0,
             capture: number,
-        },
+        }),
         Opened::Capture {
             version,
             boards,
@@ -111,14 +110,11 @@ pub(crate) fn write_table(
     text: &mut [u8],
     window: &mut [u8],
     ids: &mut [u8],
-) -> Streamed {
-    let filled = match input::fill_until(stdin, window, captures::LONGEST_HEAD) {
-        Filled::Until(filled) => filled,
-        Filled::ReadFailed(error) => return Streamed::ReadFailed(error),
-    };
-    let header = tables::header();
-    if let Err(error) = stdout.write_all(&header) {
-        return Streamed::WriteFailed(error);
-    }
+) -> Result<Ended, StreamError> {
+    let filled =
+        input::fill_until(stdin, window, captures::LONGEST_HEAD).map_err(StreamError::Read)?;
+    stdout
+        .write_all(&tables::header())
+        .map_err(StreamError::Write)?;
     write_records(stdin, stdout, text, window, ids, filled)
 }

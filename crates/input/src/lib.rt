@@ -6,43 +6,29 @@ ghost use Rattle.input.specs.Filling.{Fills};
 use std::io;
 use std::io::Read;
 
-#[derive(Drop)]
-pub enum Filled {
-    // The window holds so many bytes.
-    Until(usize),
-    ReadFailed(io::Error),
-}
-
-// Reads once behind the first `held` bytes of the window, which stay. What is read is not known.
-pub fn fill<R: Read>(input: &mut R, window: &mut [u8], held: usize) -> Filled
+// Reads once behind the first `held` bytes of the window, which stay, and says how many bytes the window holds then. What is read is
+// not known.
+pub fn fill<R: Read>(input: &mut R, window: &mut [u8], held: usize) -> io::Result<usize>
     ensures { Fills held window.old result window.new }
 {
     if window.len() < held {
-        return Filled::Until(held);
+        return Ok(held);
     }
-    match input.read(&mut window[held..]) {
-        Ok(got) => Filled::Until(held + got),
-        Err(error) => Filled::ReadFailed(error),
-    }
+    let got = input.read(&mut window[held..])?;
+    Ok(held + got)
 }
 
-// Reads until the window holds so many bytes, or is full, or the input ends.
-pub fn fill_until<R: Read>(input: &mut R, window: &mut [u8], wanted: usize) -> Filled
+// Reads until the window holds so many bytes, or is full, or the input ends, and says how many bytes it holds then.
+pub fn fill_until<R: Read>(input: &mut R, window: &mut [u8], wanted: usize) -> io::Result<usize>
     ensures { Fills 0 window.old result window.new }
 {
     let mut held: usize = 0;
     while held < wanted {
-        match fill(input, window, held) {
-            Filled::Until(filled) => {
-                if filled <= held {
-                    return Filled::Until(held);
-                }
-                held = filled;
-            }
-            Filled::ReadFailed(error) => {
-                return Filled::ReadFailed(error);
-            }
+        let filled = fill(input, window, held)?;
+        if filled <= held {
+            return Ok(held);
         }
+        held = filled;
     }
-    Filled::Until(held)
+    Ok(held)
 }

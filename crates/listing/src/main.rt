@@ -1,7 +1,6 @@
 // Lists one response: a packet on standard input, its listing on standard output.
 #![tactic(auto)]
 
-use input::Filled;
 use std::io;
 use std::io::Stdout;
 use tool::listing::Listed;
@@ -20,8 +19,6 @@ fn main(rt: HostRuntime) -> io::Result<()> {
     // One byte more than the longest packet, so that a longer input is refused by its length.
     let mut packet = [0u8; framing::LONGEST_PACKET + 1];
     let mut stdin = rt.stdin();
-    match input::fill_until(&mut stdin, &mut packet, framing::LONGEST_PACKET + 1) {
-        Filled::Until(count) => list(rt.stdout(), octets::first_bytes(&packet, count)),
-        Filled::ReadFailed(error) => Err(error),
-    }
+    let count = input::fill_until(&mut stdin, &mut packet, framing::LONGEST_PACKET + 1)?;
+    list(rt.stdout(), octets::first_bytes(&packet, count))
 }

@@ -5,7 +5,6 @@ mod stream;
 
 use std::io;
 use std::process::ExitCode;
-use stream::Counted;
 use tool::listing::Listed;
 
 // Says on standard error what failed.
@@ -18,8 +17,8 @@ fn failed(rt: &HostRuntime, what: &str, error: io::Error) -> ExitCode {
 fn sum_up(rt: &HostRuntime, pairs: &mut [u64], window: &mut [u8], text: &mut [u8]) -> ExitCode {
     let mut stdin = rt.stdin();
     let refusal = match stream::count(&mut stdin, pairs, window) {
-        Counted::Until(refusal) => refusal,
-        Counted::ReadFailed(error) => return failed(rt, "standard input", error),
+        Ok(refusal) => refusal,
+        Err(error) => return failed(rt, "standard input", error),
     };
     let Listed::Length(length) = summing::write(text, pairs, refusal) else {
         return ExitCode::SUCCESS;
