@@ -16,6 +16,7 @@ use Rattle.framing.specs.Identity.{all_alphanumeric, default_id}
 use Rattle.framing.specs.Packet.{frame_of}
 use Rattle.framing.specs.Refusal.{first_refusal}
 use Rattle.framing.proofs.Refusals.{not_refused}
+use Rattle.refusals.specs.declared.Refusal.{Refusal}
 use Rattle.block.specs.Command.{Command, command_number, Report, held, unknown}
 use Rattle.block.specs.Encoding.{every}
 use Rattle.block.proofs.Parts.{cond_same}
@@ -529,9 +530,9 @@ on_measured :
 unfolding measured_board measure_refusal measure_refusals
 on_measured P c unchanged changed = by_refusal (measure_refusal c) refl
   where
-    by_refusal : (o : Option ℕ) → measure_refusal c ≡ o → P (measured_by o c)
+    by_refusal : (o : Option Refusal) → measure_refusal c ≡ o → P (measured_by o c)
     by_refusal none e = changed (sound_parts c.board (not-false _ (not_refused _ _ c e).0))
-    by_refusal (some number) e = unchanged
+    by_refusal (some refusal) e = unchanged
 
 measurement_accepted :
     (c : MeasureCall) → sound c.board ≡ true → allows (unit_of c.board) c.number 1 ≡ true → allows (unit_of c.board) c.number 2 ≡ false
@@ -549,7 +550,7 @@ measured_value c e =
     let row : measurable (unit_of c.board) c.number ≡ true = not-false _ thirty.0 in
     let size : eqb (length c.value) (size_of (row_of (unit_of c.board) c.number).set) ≡ true = not-false _ thirty_one.0 in
     let stored : new_value (Measure c.value) c.board.parameters.store c.number ≡ some c.value = rw (row, size) in
-    ap (λ (o : Option ℕ). value_of (measured_by o c).parameters.store c.number) e
+    ap (λ (o : Option Refusal). value_of (measured_by o c).parameters.store c.number) e
     ∙ read_back (Measure c.value) c.board.parameters.store c.number c.value sized.store stored
 
 pub measurements_change : MeasurementsChange
@@ -623,6 +624,6 @@ pub set_ups_legal : SetUpsLegal
 unfolding set_up_board
 set_ups_legal given = by_refusal (set_up_refusal given) refl
   where
-    by_refusal : (o : Option ℕ) → set_up_refusal given ≡ o → sound (board_of o given) ≡ true
+    by_refusal : (o : Option Refusal) → set_up_refusal given ≡ o → sound (board_of o given) ≡ true
     by_refusal none e = started given e
-    by_refusal (some number) e = started unset unset_accepted
+    by_refusal (some refusal) e = started unset unset_accepted

@@ -5,6 +5,7 @@ use mathlib.Core.List.{List, [], ◌∷◌}
 use mathlib.Core.Path.{◌≡◌, refl, sym, ap, ◌∙◌}
 use borrow.Author.Tests.{le-ltb}
 use lib.ListN.{length, take}
+use Rattle.refusals.specs.declared.Refusal.TheVariants.{ShortBuffer}
 use Rattle.model.specs.Authentication.{bears, discovers}
 use Rattle.model.specs.Changes.{SameIdentity}
 use Rattle.model.specs.Discovery.{reply_of, discovery_reply}
@@ -45,7 +46,7 @@ discoverable {board} {id} {unit = unit} {mode = mode} kept =
       unchanged = λ packet buffer h. ap (λ (o : Outcome). o.board) (found packet buffer h);
       answered = λ packet buffer h room.
           ap (λ (o : Outcome). reply_of o.answer o.buffer) (found packet buffer h)
-          ∙ ap (λ (small : Bool). cond small (reply_of (Refused 1) buffer) (discovery_reply packet board.id (unit_of board) buffer)) (le-ltb (length buffer) 256 room)
+          ∙ ap (λ (small : Bool). cond small (reply_of (Refused ShortBuffer) buffer) (discovery_reply packet board.id (unit_of board) buffer)) (le-ltb (length buffer) 256 room)
           ∙ (λ i. discovery_reply packet (kept.id_kept i) (kept.unit_kept i) buffer);
     }
   where

@@ -5,6 +5,7 @@ use mathlib.Core.Bool.{Bool, true, false, cond, not, ◌&&◌, ◌||◌, and-fal
 use mathlib.Core.List.{List, [], ◌∷◌}
 use mathlib.Core.Logic.{◌↔◌, ◌⊎◌, inl, inr, ⊎_elim}
 use mathlib.Core.Option.{Option, none, some, or_else}
+use Rattle.std.specs.declared.result.Result.TheVariants.{Ok, Err}
 use mathlib.Core.Path.{◌≡◌, refl, ap, subst, ◌∙◌}
 use borrow.Author.Tests.{ltb-false, le-ltb, le-leb, lt-leb, ne_eqb, eqb-true, not-true, not-false}
 use lib.Dec.{eqb, leb}
@@ -15,68 +16,74 @@ use Rattle.octets.proofs.Booleans.{both_true}
 use Rattle.octets.proofs.Same.{same_equal}
 use Rattle.framing.specs.Frame.{packet_of, packet_length}
 use Rattle.framing.specs.Identity.{default_id, is_password}
-use Rattle.framing.specs.Packet.{packet_refusal}
-use Rattle.framing.specs.Refusal.{Refusal, first_refusal}
+use Rattle.framing.specs.Packet.{packet_refusals, packet_refusal}
+use Rattle.framing.specs.Refusal.{Rule, first_refusal}
+use Rattle.refusals.specs.declared.Refusal.{Refusal}
+use Rattle.refusals.specs.declared.Refusal.TheVariants.{BadId, BadPassword, BadMode, BadUnitType}
 use Rattle.framing.proofs.Refusals.{not_refused}
 use Rattle.framing.proofs.Writing.{length_packet}
 use Rattle.block.specs.Command.{Report}
 use Rattle.store.specs.Start.{start}
 use Rattle.model.specs.Authentication.{passes}
 use Rattle.model.specs.Conditions.{other_than_reads}
+use Rattle.model.specs.Discovery.{discovery_refusals}
 use Rattle.model.specs.Measurement.{measure_refusals, measure_refusal, measured_by, measured_board}
 use Rattle.model.specs.Record.{verdict_of, client, access_point, is_mode, is_id, is_unit, password_of, unit_of, SetUp, set_up_refusals, set_up_refusal, board_of, set_up_board, sound}
-use Rattle.model.specs.Refusals.{Earliest, first, later, NoneApplies, Silent, Responds, PacketsAnswered, Authorized, AuthorizedAnswered, MeasurementsAnswered, SetUpsAnswered, JudgesUnit, UnitsJudged}
-use Rattle.model.specs.Step.{Call, Request, request, is_discovery, other_id, reports_of, response, step_refusals, step_refusal, Outcome, outcome_of, answer_with, outcome_by, step}
+use Rattle.model.specs.Refusals.{Earliest, first, later, NoneApplies, Numbered, Silent, Responds, PacketsAnswered, Authorized, AuthorizedAnswered, MeasurementsAnswered, SetUpsAnswered, JudgesUnit, UnitsJudged}
+use Rattle.model.specs.Step.{Call, Request, request, is_discovery, other_id, reports_of, response, request_refusals, step_refusals, step_refusal, Outcome, outcome_of, answer_with, outcome_by, step}
 use Rattle.model.proofs.Soundness.{sound_parts, id_length}
 use Rattle.model.proofs.StepRefusals.{no_refusal, request_refusal_by, step_refusal_by, step_refused, step_answered, passed_request, PassedStep, passed_step}
 use Rattle.model.specs.declared.Answer.TheVariants as answer
-use Rattle.model.specs.declared.Verdict.TheVariants as verdict
 
 -- what the first refusal of a list says of its conditions, and back
 module _ {Asked : Type 0} where
-  pub first_earliest : (rows : List (Refusal Asked)) (asked : Asked) {number : ℕ} → first_refusal rows asked ≡ some number → Earliest rows asked number
+  pub first_earliest : (rows : List (Rule Asked)) (asked : Asked) {refusal : Refusal} → first_refusal rows asked ≡ some refusal → Earliest rows asked refusal
   unfolding first_refusal
   first_earliest [] asked e = let impossible : ◌≡◌ {A = ℕ} 0 1 = cc in absurd (omega arith)
-  first_earliest (row ∷ rows) asked {number} e = decided (row.applies asked) refl e (first_earliest rows asked)
+  first_earliest (row ∷ rows) asked {refusal} e = decided (row.applies asked) refl e (first_earliest rows asked)
     where
       decided :
-          (applies : Bool) → row.applies asked ≡ applies → cond applies (some row.number) (first_refusal rows asked) ≡ some number
-          → (first_refusal rows asked ≡ some number → Earliest rows asked number) → Earliest (row ∷ rows) asked number
-      decided true h e after = subst (λ (n : ℕ). Earliest (row ∷ rows) asked n) (cc) (first h)
+          (applies : Bool) → row.applies asked ≡ applies → cond applies (some row.refusal) (first_refusal rows asked) ≡ some refusal
+          → (first_refusal rows asked ≡ some refusal → Earliest rows asked refusal) → Earliest (row ∷ rows) asked refusal
+      decided true h e after = subst (λ (r : Refusal). Earliest (row ∷ rows) asked r) (cc) (first h)
       decided false h e after = later h (after e)
 
-  pub earliest_first : {rows : List (Refusal Asked)} {asked : Asked} {number : ℕ} → Earliest rows asked number → first_refusal rows asked ≡ some number
+  pub earliest_first : {rows : List (Rule Asked)} {asked : Asked} {refusal : Refusal} → Earliest rows asked refusal → first_refusal rows asked ≡ some refusal
   unfolding first_refusal
   earliest_first (first h) = rw h
   earliest_first (later h after) = rw (h, earliest_first after)
 
-  pub none_first : (rows : List (Refusal Asked)) (asked : Asked) → NoneApplies rows asked → first_refusal rows asked ≡ none
+  pub none_first : (rows : List (Rule Asked)) (asked : Asked) → NoneApplies rows asked → first_refusal rows asked ≡ none
   unfolding first_refusal
   none_first [] asked h = refl
   none_first (row ∷ rows) asked h = rw (h.0, none_first rows asked h.1)
 
-  pub first_none : (rows : List (Refusal Asked)) (asked : Asked) → first_refusal rows asked ≡ none → NoneApplies rows asked
+  pub first_none : (rows : List (Rule Asked)) (asked : Asked) → first_refusal rows asked ≡ none → NoneApplies rows asked
   unfolding first_refusal
   first_none [] asked e = tt
   first_none (row ∷ rows) asked e =
       let passed : (row.applies asked ≡ false) × (first_refusal rows asked ≡ none) = not_refused row rows asked e in
       (passed.0, first_none rows asked passed.1)
 
+pub numbered : Numbered
+unfolding packet_refusals request_refusals step_refusals discovery_refusals measure_refusals set_up_refusals
+numbered = record { packet = refl; discovery = refl; measurement = refl; set_up = refl }
+
 -- the answers of set-up and measurement
-verdict_number : (o : Option ℕ) {number : ℕ} → verdict_of o ≡ verdict.Refused number → o ≡ some number
-verdict_number none e = let impossible : ◌≡◌ {A = ℕ} 0 1 = cc in absurd (omega arith)
-verdict_number (some n) e = cc
+verdict_refusal : (o : Option Refusal) {refusal : Refusal} → verdict_of o ≡ Err refusal → o ≡ some refusal
+verdict_refusal none e = let impossible : ◌≡◌ {A = ℕ} 0 1 = cc in absurd (omega arith)
+verdict_refusal (some r) e = cc
 
-verdict_none : (o : Option ℕ) → verdict_of o ≡ verdict.Accepted → o ≡ none
+verdict_none : (o : Option Refusal) → verdict_of o ≡ Ok tt → o ≡ none
 verdict_none none e = refl
-verdict_none (some n) e = let impossible : ◌≡◌ {A = ℕ} 0 1 = cc in absurd (omega arith)
+verdict_none (some r) e = let impossible : ◌≡◌ {A = ℕ} 0 1 = cc in absurd (omega arith)
 
-module _ {Asked : Type 0} (rows : List (Refusal Asked)) (asked : Asked) where
-  refused_exactly : (number : ℕ) → (verdict_of (first_refusal rows asked) ≡ verdict.Refused number) ↔ Earliest rows asked number
-  refused_exactly number =
-      (λ e. first_earliest rows asked (verdict_number (first_refusal rows asked) e), λ earliest. ap verdict_of (earliest_first earliest))
+module _ {Asked : Type 0} (rows : List (Rule Asked)) (asked : Asked) where
+  refused_exactly : (refusal : Refusal) → (verdict_of (first_refusal rows asked) ≡ Err refusal) ↔ Earliest rows asked refusal
+  refused_exactly refusal =
+      (λ e. first_earliest rows asked (verdict_refusal (first_refusal rows asked) e), λ earliest. ap verdict_of (earliest_first earliest))
 
-  accepted_exactly : (verdict_of (first_refusal rows asked) ≡ verdict.Accepted) ↔ NoneApplies rows asked
+  accepted_exactly : (verdict_of (first_refusal rows asked) ≡ Ok tt) ↔ NoneApplies rows asked
   accepted_exactly =
       (λ e. first_none rows asked (verdict_none (first_refusal rows asked) e), λ none_applies. ap verdict_of (none_first rows asked none_applies))
 
@@ -85,7 +92,7 @@ unfolding measure_refusal measured_board
 measurements_answered c =
     record {
       refused = refused_exactly measure_refusals c;
-      unchanged = λ number e. ap (λ (o : Option ℕ). measured_by o c) (verdict_number (measure_refusal c) e);
+      unchanged = λ refusal e. ap (λ (o : Option Refusal). measured_by o c) (verdict_refusal (measure_refusal c) e);
       accepted = accepted_exactly measure_refusals c;
     }
 
@@ -94,25 +101,25 @@ unfolding set_up_refusal set_up_board
 set_ups_answered given =
     record {
       refused = refused_exactly set_up_refusals given;
-      replaced = λ number e. ap (λ (o : Option ℕ). board_of o given) (verdict_number (set_up_refusal given) e);
+      replaced = λ refusal e. ap (λ (o : Option Refusal). board_of o given) (verdict_refusal (set_up_refusal given) e);
       accepted = accepted_exactly set_up_refusals given;
-      started = λ e. ap (λ (o : Option ℕ). board_of o given) (verdict_none (set_up_refusal given) e);
+      started = λ e. ap (λ (o : Option Refusal). board_of o given) (verdict_none (set_up_refusal given) e);
     }
 
 -- the answers to packets
 reports_no_refusal :
-    (reports : List Report) (r : Request) (buffer : List ℕ) {number : ℕ}
-    → (answer_with reports r buffer).answer ≡ answer.Refused number → ⊥
+    (reports : List Report) (r : Request) (buffer : List ℕ) {refusal : Refusal}
+    → (answer_with reports r buffer).answer ≡ answer.Refused refusal → ⊥
 reports_no_refusal [] r buffer e = let impossible : ◌≡◌ {A = ℕ} 0 1 = cc in omega arith
 reports_no_refusal (report ∷ reports) r buffer e = let impossible : ◌≡◌ {A = ℕ} 0 1 = cc in omega arith
 
-answer_number : (o : Option ℕ) (r : Request) (buffer : List ℕ) {number : ℕ} → (outcome_by o r buffer).answer ≡ answer.Refused number → o ≡ some number
-answer_number none r buffer e = absurd (reports_no_refusal (reports_of r) r buffer e)
-answer_number (some n) r buffer e = cc
+answer_refusal : (o : Option Refusal) (r : Request) (buffer : List ℕ) {refusal : Refusal} → (outcome_by o r buffer).answer ≡ answer.Refused refusal → o ≡ some refusal
+answer_refusal none r buffer e = absurd (reports_no_refusal (reports_of r) r buffer e)
+answer_refusal (some found) r buffer e = cc
 
-pub refusal_number_lem : (c : Call) {number : ℕ} → (step c).answer ≡ answer.Refused number → step_refusal c ≡ some number
+pub refusal_answered : (c : Call) {refusal : Refusal} → (step c).answer ≡ answer.Refused refusal → step_refusal c ≡ some refusal
 unfolding step
-refusal_number_lem c e = answer_number (step_refusal c) (request c) c.buffer e
+refusal_answered c e = answer_refusal (step_refusal c) (request c) c.buffer e
 
 -- the response of a packet that is not refused has the length that 12 judges by, and room in the buffer
 response_size : (c : Call) → PassedStep c → (length (packet_of (response (request c))) ≤ 256) × (256 ≤ length c.buffer)
@@ -143,16 +150,16 @@ answered_by c passed (report ∷ reports) r e =
     })
 
 -- silence and a response are no refusal
-pub none_refused : (c : Call) → ((number : ℕ) → (step c).answer ≡ answer.Refused number → ⊥) → step_refusal c ≡ none
+pub none_refused : (c : Call) → ((refusal : Refusal) → (step c).answer ≡ answer.Refused refusal → ⊥) → step_refusal c ≡ none
 none_refused c other = by_refusal (step_refusal c) refl
   where
-    by_refusal : (o : Option ℕ) → step_refusal c ≡ o → step_refusal c ≡ none
+    by_refusal : (o : Option Refusal) → step_refusal c ≡ o → step_refusal c ≡ none
     by_refusal none e = e
-    by_refusal (some number) e = absurd (other number (ap (λ (o : Outcome). o.answer) (step_refused c e)))
+    by_refusal (some refusal) e = absurd (other refusal (ap (λ (o : Outcome). o.answer) (step_refused c e)))
 
 pub answered_none : (c : Call) → Silent c ⊎ Responds c → step_refusal c ≡ none
-answered_none c (inl silent) = none_refused c (λ number e. let impossible : ◌≡◌ {A = ℕ} 0 1 = cc silent.answer in omega arith)
-answered_none c (inr responds) = none_refused c (λ number e. let impossible : ◌≡◌ {A = ℕ} 0 1 = cc responds.answer in omega arith)
+answered_none c (inl silent) = none_refused c (λ refusal e. let impossible : ◌≡◌ {A = ℕ} 0 1 = cc silent.answer in omega arith)
+answered_none c (inr responds) = none_refused c (λ refusal e. let impossible : ◌≡◌ {A = ℕ} 0 1 = cc responds.answer in omega arith)
 
 pub none_answered : (c : Call) → step_refusal c ≡ none → Silent c ⊎ Responds c
 none_answered c e = answered_by c (passed_step c e) (reports_of (request c)) refl (step_answered c e)
@@ -162,10 +169,10 @@ unfolding step_refusal
 packets_answered c =
     record {
       refused =
-          λ number.
-          (λ e. first_earliest step_refusals c (refusal_number_lem c e), λ earliest. ap (λ (o : Outcome). o.answer) (step_refused c (earliest_first earliest)));
-      unchanged = λ number e.
-          let same : step c ≡ outcome_of c.board (answer.Refused number) c.buffer = step_refused c (refusal_number_lem c e) in
+          λ refusal.
+          (λ e. first_earliest step_refusals c (refusal_answered c e), λ earliest. ap (λ (o : Outcome). o.answer) (step_refused c (earliest_first earliest)));
+      unchanged = λ refusal e.
+          let same : step c ≡ outcome_of c.board (answer.Refused refusal) c.buffer = step_refused c (refusal_answered c e) in
           (ap (λ (o : Outcome). o.board) same, ap (λ (o : Outcome). o.buffer) same);
       accepted = (
         λ answered. first_none step_refusals c (answered_none c answered),
@@ -207,9 +214,9 @@ authorized_answered c a = none_answered c (authorized_passes c a)
 module _ (given : SetUp) (id : is_id given.id ≡ true) (password : is_password given.password ≡ true) where
   set_up_by :
       {mode_wrong unit_wrong : Bool} → not (is_mode given.mode) ≡ mode_wrong → not (is_unit given.unit) ≡ unit_wrong
-      → set_up_refusal given ≡ cond mode_wrong (some 22) (cond unit_wrong (some 23) none)
+      → set_up_refusal given ≡ cond mode_wrong (some BadMode) (cond unit_wrong (some BadUnitType) none)
   unfolding set_up_refusal set_up_refusals first_refusal
-  set_up_by m u = λ i. cond (not (id i)) (some 20) (cond (not (password i)) (some 21) (cond (m i) (some 22) (cond (u i) (some 23) none)))
+  set_up_by m u = λ i. cond (not (id i)) (some BadId) (cond (not (password i)) (some BadPassword) (cond (m i) (some BadMode) (cond (u i) (some BadUnitType) none)))
 
   mode_right : (given.mode ≡ 1) ⊎ (given.mode ≡ 2) → not (is_mode given.mode) ≡ false
   mode_right m = ⊎_elim (λ e. ap (λ (mode : ℕ). not (is_mode mode)) e) (λ e. ap (λ (mode : ℕ). not (is_mode mode)) e) m
@@ -221,9 +228,9 @@ module _ (given : SetUp) (id : is_id given.id ≡ true) (password : is_password 
       (λ h. ap not (ap (λ (b : Bool). leb 2 given.unit && b) (lt-leb given.unit 5 h) ∙ and-false (leb 2 given.unit)))
       u
 
-  made : {o : Option ℕ} → set_up_refusal given ≡ o → unit_of (set_up_board given) ≡ unit_of (board_of o given)
+  made : {o : Option Refusal} → set_up_refusal given ≡ o → unit_of (set_up_board given) ≡ unit_of (board_of o given)
   unfolding set_up_board
-  made e = ap (λ (o : Option ℕ). unit_of (board_of o given)) e
+  made e = ap (λ (o : Option Refusal). unit_of (board_of o given)) e
 
   judges_unit : JudgesUnit given
   unfolding start
@@ -234,7 +241,7 @@ module _ (given : SetUp) (id : is_id given.id ≡ true) (password : is_password 
         accepted = λ m low high.
             let none_applies = set_up_by {unit_wrong = false} (mode_right m) (rw (le-leb 2 given.unit low, le-leb given.unit 5 high)) in
             (ap verdict_of none_applies, made none_applies);
-        refused = λ number e. made (verdict_number (set_up_refusal given) e);
+        refused = λ refusal e. made (verdict_refusal (set_up_refusal given) e);
       }
 
 pub units_judged : UnitsJudged

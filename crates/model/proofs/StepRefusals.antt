@@ -9,6 +9,8 @@ use lib.ListN.{drop}
 use Rattle.framing.specs.Packet.{packet_refusals, packet_refusal}
 use Rattle.framing.specs.Refusal.{first_refusal}
 use Rattle.framing.proofs.Refusals.{not_refused, parts_then, both_none}
+use Rattle.refusals.specs.declared.Refusal.{Refusal}
+use Rattle.refusals.specs.declared.Refusal.TheVariants.{ShortBuffer, OtherId, OtherPassword, NoFunction, MalformedBlock, DiscoveryWrites, LongResponse, BadRecord}
 use Rattle.block.specs.Command.{Report}
 use Rattle.block.specs.Reading.{is_some}
 use Rattle.model.specs.Commands.{run}
@@ -18,9 +20,9 @@ use Rattle.model.specs.declared.Answer.TheVariants.{Refused}
 use Rattle.model.specs.declared.Board.{Board}
 
 -- no refusal: the option is empty
-pub no_refusal : (refusal : Option ℕ) → not (is_some refusal) ≡ true → refusal ≡ none
+pub no_refusal : (refusal : Option Refusal) → not (is_some refusal) ≡ true → refusal ≡ none
 no_refusal none h = refl
-no_refusal (some number) h = let impossible : ◌≡◌ {A = ℕ} 0 1 = cc in absurd (omega arith)
+no_refusal (some found) h = let impossible : ◌≡◌ {A = ℕ} 0 1 = cc in absurd (omega arith)
 
 -- those of the packet's bytes, then those of its frame
 after_one : (c : Call) → first_refusal (drop 2 step_refusals) c ≡ or_else (packet_refusal c.packet) (first_refusal request_refusals (request c))
@@ -30,9 +32,9 @@ after_one c = parts_then c (λ (whole : Call). whole.packet) packet_refusals req
 pub step_refusal_lem :
     (c : Call)
     → step_refusal c
-    ≡ cond (unsound c) (some 70) (cond (small_buffer c) (some 1) (or_else (packet_refusal c.packet) (first_refusal request_refusals (request c))))
+    ≡ cond (unsound c) (some BadRecord) (cond (small_buffer c) (some ShortBuffer) (or_else (packet_refusal c.packet) (first_refusal request_refusals (request c))))
 unfolding step_refusal step_refusals first_refusal
-step_refusal_lem c = ap (λ (after : Option ℕ). cond (unsound c) (some 70) (cond (small_buffer c) (some 1) after)) (after_one c)
+step_refusal_lem c = ap (λ (after : Option Refusal). cond (unsound c) (some BadRecord) (cond (small_buffer c) (some ShortBuffer) after)) (after_one c)
 
 -- the refusal of a frame, by the six conditions
 pub request_refusal_by :
@@ -40,27 +42,27 @@ pub request_refusal_by :
     → other_id r ≡ id_other → wrong_password r ≡ password_wrong → wrong_function r ≡ function_wrong
     → malformed r ≡ block_malformed → discovery_writes r ≡ discovery_writes_lem → long_response r ≡ response_long
     → first_refusal request_refusals r
-    ≡ cond id_other (some 7) (cond password_wrong (some 8) (cond function_wrong (some 9)
-    (cond block_malformed (some 10) (cond discovery_writes_lem (some 11) (cond response_long (some 12) none)))))
+    ≡ cond id_other (some OtherId) (cond password_wrong (some OtherPassword) (cond function_wrong (some NoFunction)
+    (cond block_malformed (some MalformedBlock) (cond discovery_writes_lem (some DiscoveryWrites) (cond response_long (some LongResponse) none)))))
 unfolding request_refusals first_refusal
 request_refusal_by r a b c d e f =
-    λ i. cond (a i) (some 7) (cond (b i) (some 8) (cond (c i) (some 9) (cond (d i) (some 10) (cond (e i) (some 11) (cond (f i) (some 12) none)))))
+    λ i. cond (a i) (some OtherId) (cond (b i) (some OtherPassword) (cond (c i) (some NoFunction) (cond (d i) (some MalformedBlock) (cond (e i) (some DiscoveryWrites) (cond (f i) (some LongResponse) none)))))
 
 -- and of a packet, by the board's, the buffer's, framing's and the frame's
 pub step_refusal_by :
-    (c : Call) {board_unsound buffer_small : Bool} {of_packet of_request : Option ℕ}
+    (c : Call) {board_unsound buffer_small : Bool} {of_packet of_request : Option Refusal}
     → unsound c ≡ board_unsound → small_buffer c ≡ buffer_small → packet_refusal c.packet ≡ of_packet
     → first_refusal request_refusals (request c) ≡ of_request
-    → step_refusal c ≡ cond board_unsound (some 70) (cond buffer_small (some 1) (or_else of_packet of_request))
-step_refusal_by c a b p r = step_refusal_lem c ∙ (λ i. cond (a i) (some 70) (cond (b i) (some 1) (or_else (p i) (r i))))
+    → step_refusal c ≡ cond board_unsound (some BadRecord) (cond buffer_small (some ShortBuffer) (or_else of_packet of_request))
+step_refusal_by c a b p r = step_refusal_lem c ∙ (λ i. cond (a i) (some BadRecord) (cond (b i) (some ShortBuffer) (or_else (p i) (r i))))
 
-pub step_refused : (c : Call) {number : ℕ} → step_refusal c ≡ some number → step c ≡ outcome_of c.board (Refused number) c.buffer
+pub step_refused : (c : Call) {refusal : Refusal} → step_refusal c ≡ some refusal → step c ≡ outcome_of c.board (Refused refusal) c.buffer
 unfolding step
-step_refused c e = ap (λ (number : Option ℕ). outcome_by number (request c) c.buffer) e
+step_refused c e = ap (λ (refusal : Option Refusal). outcome_by refusal (request c) c.buffer) e
 
 pub step_answered : (c : Call) → step_refusal c ≡ none → step c ≡ answer_with (reports_of (request c)) (request c) c.buffer
 unfolding step
-step_answered c e = ap (λ (number : Option ℕ). outcome_by number (request c) c.buffer) e
+step_answered c e = ap (λ (refusal : Option Refusal). outcome_by refusal (request c) c.buffer) e
 
 -- what is known of a frame that is not refused, and of a packet
 pub record PassedRequest (r : Request) : Type 0 where
@@ -113,6 +115,6 @@ on_step P c unchanged changed = by_refusal (step_refusal c) refl
     by_discovery true = unchanged
     by_discovery false = changed
 
-    by_refusal : (o : Option ℕ) → step_refusal c ≡ o → P (step c).board
-    by_refusal (some number) e = rw (step_refused c e) unchanged
+    by_refusal : (o : Option Refusal) → step_refusal c ≡ o → P (step c).board
+    by_refusal (some refusal) e = rw (step_refused c e) unchanged
     by_refusal none e = rw (answered_board c e) (by_discovery (is_discovery (request c)))

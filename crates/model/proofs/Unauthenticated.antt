@@ -13,6 +13,8 @@ use Rattle.framing.specs.Frame.{Frame, frame, packet_of, packet_length}
 use Rattle.framing.specs.Identity.{default_id}
 use Rattle.framing.specs.Packet.{packet_refusal, frame_of}
 use Rattle.framing.specs.Refusal.{first_refusal}
+use Rattle.refusals.specs.declared.Refusal.{Refusal}
+use Rattle.refusals.specs.declared.Refusal.TheVariants.{ShortBuffer, OtherId, OtherPassword}
 use Rattle.block.specs.Command.{Report}
 use Rattle.block.specs.Encoding.{encode_reports}
 use Rattle.block.specs.Reading.{is_some}
@@ -35,11 +37,11 @@ no_and : {a : Bool} (b : Bool) → a ≡ true → (not a && b) ≡ false
 no_and b h = ap (λ (a : Bool). not a && b) h
 
 turned_down :
-    (small known : Bool) (of_packet : Option ℕ)
-    → cond small (some 1) (or_else of_packet (cond (not known) (some 7) (some 8))) ≡ some (cond small 1 (get_or of_packet (cond known 8 7)))
+    (small known : Bool) (of_packet : Option Refusal)
+    → cond small (some ShortBuffer) (or_else of_packet (cond (not known) (some OtherId) (some OtherPassword))) ≡ some (cond small ShortBuffer (get_or of_packet (cond known OtherPassword OtherId)))
 unfolding or_else
 turned_down true known of_packet = refl
-turned_down false known (some number) = refl
+turned_down false known (some refusal) = refl
 turned_down false true none = refl
 turned_down false false none = refl
 
@@ -81,17 +83,17 @@ module _ (board : Board) (packet : List ℕ) where
         (ap (λ (d : Bool). d && other_than_reads (frame_of packet)) is_discovery_lem)
         (ap (λ (f : Frame). ltb 256 (packet_length f)) response_found)
 
-    outcome_found : (refusal : Option ℕ) (buffer : List ℕ) → outcome_by refusal asked buffer ≡ with_reply board (reply_by refusal found buffer)
+    outcome_found : (refusal : Option Refusal) (buffer : List ℕ) → outcome_by refusal asked buffer ≡ with_reply board (reply_by refusal found buffer)
     unfolding asked found
     outcome_found none buffer = ap (λ (reports : List Report). answer_with reports asked buffer) reports_found ∙ answer_found (found_reports found) buffer
-    outcome_found (some number) buffer = refl
+    outcome_found (some refusal) buffer = refl
 
   -- refusal 70 is not met
   module _ (buffer : List ℕ) (legal : sound board ≡ true) where
     refusal_by :
-        {small : Bool} {of_packet of_request : Option ℕ} → ltb (length buffer) 256 ≡ small → packet_refusal packet ≡ of_packet
+        {small : Bool} {of_packet of_request : Option Refusal} → ltb (length buffer) 256 ≡ small → packet_refusal packet ≡ of_packet
         → first_refusal request_refusals asked ≡ of_request
-        → step_refusal (call board packet buffer) ≡ cond small (some 1) (or_else of_packet of_request)
+        → step_refusal (call board packet buffer) ≡ cond small (some ShortBuffer) (or_else of_packet of_request)
     unfolding asked
     refusal_by = step_refusal_by (call board packet buffer) (ap not legal)
 
@@ -100,13 +102,13 @@ module _ (board : Board) (packet : List ℕ) where
     unfolding asked found step discovery_reply or_else
     discovery_step h =
         let parts = both_true (passes packet) (discovers_in board.mode (frame_of packet)) h in
-        ap (λ (refusal : Option ℕ). outcome_by refusal asked buffer) (refusal_by refl (no_refusal (packet_refusal packet) parts.0) (refusal_found parts.1))
+        ap (λ (refusal : Option Refusal). outcome_by refusal asked buffer) (refusal_by refl (no_refusal (packet_refusal packet) parts.0) (refusal_found parts.1))
         ∙ by_room parts.1 (ltb (length buffer) 256)
       where
         by_room :
             discovers_in board.mode (frame_of packet) ≡ true → (small : Bool)
-            → outcome_by (cond small (some 1) (first_refusal discovery_refusals found)) asked buffer
-            ≡ with_reply board (cond small (reply_of (Refused 1) buffer) (reply_by (first_refusal discovery_refusals found) found buffer))
+            → outcome_by (cond small (some ShortBuffer) (first_refusal discovery_refusals found)) asked buffer
+            ≡ with_reply board (cond small (reply_of (Refused ShortBuffer) buffer) (reply_by (first_refusal discovery_refusals found) found buffer))
         by_room is_discovery_lem true = refl
         by_room is_discovery_lem false = outcome_found is_discovery_lem (first_refusal discovery_refusals found) buffer
 
@@ -121,14 +123,14 @@ module _ (board : Board) (packet : List ℕ) where
         ∙ turned_down (ltb (length buffer) 256) (same (frame_of packet).id board.id || same (frame_of packet).id default_id) (packet_refusal packet))
       where
         by_packet :
-            (of_packet : Option ℕ) → packet_refusal packet ≡ of_packet
-            → step_refusal (call board packet buffer) ≡ cond (ltb (length buffer) 256) (some 1) (or_else of_packet (cond (other_id asked) (some 7) (some 8)))
-        by_packet (some number) e = refusal_by refl e refl
+            (of_packet : Option Refusal) → packet_refusal packet ≡ of_packet
+            → step_refusal (call board packet buffer) ≡ cond (ltb (length buffer) 256) (some ShortBuffer) (or_else of_packet (cond (other_id asked) (some OtherId) (some OtherPassword)))
+        by_packet (some refusal) e = refusal_by refl e refl
         by_packet none e =
             let no_discovery : is_discovery asked ≡ false =
-            ap (λ (o : Option ℕ). not (is_some o) && discovers_in board.mode (frame_of packet)) (sym e) ∙ h in
+            ap (λ (o : Option Refusal). not (is_some o) && discovers_in board.mode (frame_of packet)) (sym e) ∙ h in
             let other : same (frame_of packet).password (password_of board) ≡ false =
-            ap (λ (o : Option ℕ). not (is_some o) && same (frame_of packet).password (password_of board)) (sym e) ∙ unknown in
+            ap (λ (o : Option Refusal). not (is_some o) && same (frame_of packet).password (password_of board)) (sym e) ∙ unknown in
             refusal_by refl e (request_refusal_by asked refl (λ i. not (no_discovery i) && not (other i)) refl refl refl refl)
 
     unauthenticated_step :

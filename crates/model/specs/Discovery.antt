@@ -4,7 +4,9 @@ use Rattle.std.proofs.Math.Option.{Option, none, some, get_or}
 use Rattle.octets.specs.Octets.{overwrite}
 use Rattle.framing.specs.Frame.{Frame, frame, packet_of, packet_length}
 use Rattle.framing.specs.Packet.{frame_of}
-use Rattle.framing.specs.Refusal.{Refusal, refusal, first_refusal}
+use Rattle.framing.specs.Refusal.{Rule, rule, first_refusal}
+use Rattle.refusals.specs.declared.Refusal.{Refusal}
+use Rattle.refusals.specs.declared.Refusal.TheVariants.{NoFunction, MalformedBlock, DiscoveryWrites, LongResponse}
 use Rattle.block.specs.Command.{Report}
 use Rattle.block.specs.Encoding.{encode_reports}
 use Rattle.block.specs.Request.{no_function, no_commands}
@@ -38,12 +40,12 @@ found_reports d = discover_reports d.id d.unit (get_or (commands_in d.asked) [])
 abbrev pub found_response : Discovery → Frame
 found_response d = frame d.id d.asked.password 0x06 (encode_reports 0 (found_reports d))
 
-unfoldable pub discovery_refusals : List (Refusal Discovery)
+unfoldable pub discovery_refusals : List (Rule Discovery)
 discovery_refusals =
-    refusal 9 (λ (d : Discovery). no_function d.asked.function)
-    ∷ refusal 10 (λ (d : Discovery). no_commands d.asked.function d.asked.block)
-    ∷ refusal 11 (λ (d : Discovery). other_than_reads d.asked)
-    ∷ refusal 12 (λ (d : Discovery). ltb 256 (packet_length (found_response d)))
+    rule NoFunction (λ (d : Discovery). no_function d.asked.function)
+    ∷ rule MalformedBlock (λ (d : Discovery). no_commands d.asked.function d.asked.block)
+    ∷ rule DiscoveryWrites (λ (d : Discovery). other_than_reads d.asked)
+    ∷ rule LongResponse (λ (d : Discovery). ltb 256 (packet_length (found_response d)))
     ∷ []
 
 -- silence, or the response in the first bytes of the buffer
@@ -53,8 +55,8 @@ reply_with (first ∷ rest) d buffer =
     reply_of (Response (length (packet_of (found_response d)))) (overwrite buffer 0 (packet_of (found_response d)))
 
 -- the lowest of 9 to 12 that applies, or that
-abbrev pub reply_by : Option ℕ → Discovery → List ℕ → Reply
-reply_by (some number) d buffer = reply_of (Refused number) buffer
+abbrev pub reply_by : Option Refusal → Discovery → List ℕ → Reply
+reply_by (some refusal) d buffer = reply_of (Refused refusal) buffer
 reply_by none d buffer = reply_with (found_reports d) d buffer
 
 unfoldable pub discovery_reply : List ℕ → List ℕ → ℕ → List ℕ → Reply

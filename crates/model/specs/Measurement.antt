@@ -1,7 +1,9 @@
 -- What a measurement does.
 use Rattle.std.specs.Prelude.{ℕ, not, List, [], ◌∷◌, ◌≡◌, eqb, length}
 use Rattle.std.proofs.Math.Option.{Option, none, some}
-use Rattle.framing.specs.Refusal.{Refusal, refusal, first_refusal}
+use Rattle.framing.specs.Refusal.{Rule, rule, first_refusal}
+use Rattle.refusals.specs.declared.Refusal.{Refusal}
+use Rattle.refusals.specs.declared.Refusal.TheVariants.{NotMeasured, MeasuredLength, BadRecord}
 use Rattle.rows.specs.Layout.{size_of}
 use Rattle.store.specs.Operations.{measurable, measured}
 use Rattle.rows.specs.Rows.{row_of}
@@ -17,21 +19,21 @@ pub record MeasureCall : Type 0 where
 abbrev pub measure_call : Board → ℕ → List ℕ → MeasureCall
 measure_call board number value = record { board = board; number = number; value = value }
 
-unfoldable pub measure_refusals : List (Refusal MeasureCall)
+unfoldable pub measure_refusals : List (Rule MeasureCall)
 measure_refusals =
-    refusal 70 (λ (c : MeasureCall). not (sound c.board))
-    ∷ refusal 30 (λ (c : MeasureCall). not (measurable (unit_of c.board) c.number))
-    ∷ refusal 31 (λ (c : MeasureCall). not (eqb (length c.value) (size_of (row_of (unit_of c.board) c.number).set)))
+    rule BadRecord (λ (c : MeasureCall). not (sound c.board))
+    ∷ rule NotMeasured (λ (c : MeasureCall). not (measurable (unit_of c.board) c.number))
+    ∷ rule MeasuredLength (λ (c : MeasureCall). not (eqb (length c.value) (size_of (row_of (unit_of c.board) c.number).set)))
     ∷ []
 
-unfoldable pub measure_refusal : MeasureCall → Option ℕ
+unfoldable pub measure_refusal : MeasureCall → Option Refusal
 measure_refusal c = first_refusal measure_refusals c
 
-abbrev pub measured_by : Option ℕ → MeasureCall → Board
+abbrev pub measured_by : Option Refusal → MeasureCall → Board
 measured_by none c =
     with_parameters c.board
     (parameters_of (measured c.board.parameters.store c.number c.value) c.board.parameters.schedule)
-measured_by (some number) c = c.board
+measured_by (some refusal) c = c.board
 
 unfoldable pub measured_board : MeasureCall → Board
 measured_board c = measured_by (measure_refusal c) c

@@ -1,6 +1,7 @@
 -- Demand 3: an unauthenticated packet (that of a stranger, in document 01) learns and changes nothing. One claim about a list of calls
 -- to two boards.
-use Rattle.std.specs.Prelude.{ℕ, ◌≤◌, true, false, List, [], ◌∷◌, ◌≡◌, length}
+use Rattle.std.specs.Prelude.{ℕ, ◌≤◌, true, false, List, [], ◌∷◌, ◌≡◌, Result, ⊤, length}
+use Rattle.refusals.specs.declared.Refusal.{Refusal}
 use Rattle.model.specs.Authentication.{bears, discovers}
 use Rattle.model.specs.Discovery.{Reply, discovery_reply}
 use Rattle.model.specs.Measurement.{measure_call, measure_refusal, measured_board}
@@ -8,7 +9,6 @@ use Rattle.model.specs.PublicReply.{reply_to}
 use Rattle.model.specs.Record.{verdict_of, password_of, unit_of, SetUp, set_up_board}
 use Rattle.model.specs.Step.{call, step}
 use Rattle.model.specs.declared.Board.{Board}
-use Rattle.model.specs.declared.Verdict.{Verdict}
 
 -- a call of one board alone: a packet with the bytes of its response buffer, or a measurement of a parameter
 pub data OwnCall : Type 0 where
@@ -24,7 +24,7 @@ pub data ListedCall : Type 0 where
 -- what a call returns beside the record, a packet with the bytes of the response buffer
 pub data Returned : Type 0 where
   replied : Reply → Returned
-  judged : Verdict → Returned
+  judged : Result ⊤ Refusal → Returned
 
 abbrev pub board_after : Board → OwnCall → Board
 board_after board (of_packet packet buffer) = (step (call board packet buffer)).board

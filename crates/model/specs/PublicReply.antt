@@ -5,6 +5,8 @@ use Rattle.std.proofs.Math.Option.{get_or}
 use Rattle.octets.specs.Octets.{same}
 use Rattle.framing.specs.Identity.{default_id}
 use Rattle.framing.specs.Packet.{packet_refusal, frame_of}
+use Rattle.refusals.specs.declared.Refusal.{Refusal}
+use Rattle.refusals.specs.declared.Refusal.TheVariants.{ShortBuffer, OtherId, OtherPassword}
 use Rattle.model.specs.Authentication.{bears, discovers}
 use Rattle.model.specs.Discovery.{Reply, reply_of, discovery_reply}
 use Rattle.model.specs.Record.{password_of, unit_of, sound}
@@ -17,13 +19,13 @@ reply_to board packet buffer = reply_of (step (call board packet buffer)).answer
 
 -- to a discovery, with a buffer of any length
 abbrev pub buffered_reply : List ℕ → List ℕ → ℕ → List ℕ → Reply
-buffered_reply packet id unit buffer = cond (ltb (length buffer) 256) (reply_of (Refused 1) buffer) (discovery_reply packet id unit buffer)
+buffered_reply packet id unit buffer = cond (ltb (length buffer) 256) (reply_of (Refused ShortBuffer) buffer) (discovery_reply packet id unit buffer)
 
 -- why any other packet is turned down: the lowest of 1 to 8, and nothing after the password is looked at
-abbrev pub public_refusal : List ℕ → List ℕ → List ℕ → ℕ
+abbrev pub public_refusal : List ℕ → List ℕ → List ℕ → Refusal
 public_refusal id packet buffer =
-    cond (ltb (length buffer) 256) 1
-    (get_or (packet_refusal packet) (cond (same (frame_of packet).id id || same (frame_of packet).id default_id) 8 7))
+    cond (ltb (length buffer) 256) ShortBuffer
+    (get_or (packet_refusal packet) (cond (same (frame_of packet).id id || same (frame_of packet).id default_id) OtherPassword OtherId))
 
 abbrev pub public_reply : ℕ → List ℕ → ℕ → List ℕ → List ℕ → Reply
 public_reply mode id unit packet buffer =

@@ -1,9 +1,11 @@
 -- A board's record, set-up, and which records are sound.
-use Rattle.std.specs.Prelude.{ℕ, ◌-◌, Bool, not, ◌&&◌, ◌||◌, List, [], ◌∷◌, ◌++◌, ◌≡◌, leb, eqb, length, take, replicate}
+use Rattle.std.specs.Prelude.{ℕ, ◌-◌, Bool, not, ◌&&◌, ◌||◌, List, [], ◌∷◌, ◌++◌, ◌≡◌, Result, Ok, Err, ⊤, leb, eqb, length, take, replicate}
 use Rattle.std.proofs.Math.Option.{Option, none, some}
 use Rattle.octets.specs.Octets.{between, same}
 use Rattle.framing.specs.Identity.{default_id, all_alphanumeric, is_password}
-use Rattle.framing.specs.Refusal.{Refusal, refusal, first_refusal}
+use Rattle.framing.specs.Refusal.{Rule, rule, first_refusal}
+use Rattle.refusals.specs.declared.Refusal.{Refusal}
+use Rattle.refusals.specs.declared.Refusal.TheVariants.{BadId, BadPassword, BadMode, BadUnitType}
 use Rattle.store.specs.declared.Store.{Store}
 use Rattle.rows.specs.Layout.{store_size, is_micra}
 use Rattle.store.specs.Layout.{value_of}
@@ -14,13 +16,11 @@ use Rattle.schedule.specs.Entries as entries
 use Rattle.model.specs.declared.Answered.{Answered}
 use Rattle.model.specs.declared.Board.{Board}
 use Rattle.model.specs.declared.Parameters.{Parameters}
-use Rattle.model.specs.declared.Verdict.{Verdict}
-use Rattle.model.specs.declared.Verdict.TheVariants.{Accepted, Refused}
 
--- the number of a refusal, none where the call is accepted
-abbrev pub verdict_of : Option ℕ → Verdict
-verdict_of none = Accepted
-verdict_of (some number) = Refused number
+-- the answer of a call: the refusal if there is one
+abbrev pub verdict_of : Option Refusal → Result ⊤ Refusal
+verdict_of none = Ok tt
+verdict_of (some refusal) = Err refusal
 
 -- the mode in force: client or access point
 abbrev pub client : ℕ
@@ -68,15 +68,15 @@ pub record SetUp : Type 0 where
 abbrev pub set_up : List ℕ → List ℕ → ℕ → ℕ → SetUp
 set_up id password mode unit = record { id = id; password = password; mode = mode; unit = unit }
 
-unfoldable pub set_up_refusals : List (Refusal SetUp)
+unfoldable pub set_up_refusals : List (Rule SetUp)
 set_up_refusals =
-    refusal 20 (λ (given : SetUp). not (is_id given.id))
-    ∷ refusal 21 (λ (given : SetUp). not (is_password given.password))
-    ∷ refusal 22 (λ (given : SetUp). not (is_mode given.mode))
-    ∷ refusal 23 (λ (given : SetUp). not (is_unit given.unit))
+    rule BadId (λ (given : SetUp). not (is_id given.id))
+    ∷ rule BadPassword (λ (given : SetUp). not (is_password given.password))
+    ∷ rule BadMode (λ (given : SetUp). not (is_mode given.mode))
+    ∷ rule BadUnitType (λ (given : SetUp). not (is_unit given.unit))
     ∷ []
 
-unfoldable pub set_up_refusal : SetUp → Option ℕ
+unfoldable pub set_up_refusal : SetUp → Option Refusal
 set_up_refusal given = first_refusal set_up_refusals given
 
 -- the start record
@@ -94,9 +94,9 @@ start_board given =
 abbrev pub unset : SetUp
 unset = set_up (replicate 16 0) [] client 2
 
-abbrev pub board_of : Option ℕ → SetUp → Board
+abbrev pub board_of : Option Refusal → SetUp → Board
 board_of none given = start_board given
-board_of (some number) given = start_board unset
+board_of (some refusal) given = start_board unset
 
 unfoldable pub set_up_board : SetUp → Board
 set_up_board given = board_of (set_up_refusal given) given

@@ -5,7 +5,9 @@ use Rattle.octets.specs.Octets.{same, overwrite}
 use Rattle.framing.specs.Frame.{Frame, frame, packet_of, packet_length}
 use Rattle.framing.specs.Identity.{default_id}
 use Rattle.framing.specs.Packet.{packet_refusals, frame_of}
-use Rattle.framing.specs.Refusal.{Refusal, refusal, refusal_of, first_refusal}
+use Rattle.framing.specs.Refusal.{Rule, rule, rule_of, first_refusal}
+use Rattle.refusals.specs.declared.Refusal.{Refusal}
+use Rattle.refusals.specs.declared.Refusal.TheVariants.{ShortBuffer, OtherId, OtherPassword, NoFunction, MalformedBlock, DiscoveryWrites, LongResponse, BadRecord}
 use Rattle.block.specs.Command.{Command, Report}
 use Rattle.block.specs.Encoding.{encode_reports}
 use Rattle.block.specs.Request.{no_function, no_commands}
@@ -79,21 +81,21 @@ discovery_writes r = is_discovery r && other_than_reads r.frame
 abbrev pub long_response : Request → Bool
 long_response r = ltb 256 (packet_length (response r))
 
-unfoldable pub request_refusals : List (Refusal Request)
+unfoldable pub request_refusals : List (Rule Request)
 request_refusals =
-    refusal 7 other_id
-    ∷ refusal 8 wrong_password
-    ∷ refusal 9 wrong_function
-    ∷ refusal 10 malformed
-    ∷ refusal 11 discovery_writes
-    ∷ refusal 12 long_response
+    rule OtherId other_id
+    ∷ rule OtherPassword wrong_password
+    ∷ rule NoFunction wrong_function
+    ∷ rule MalformedBlock malformed
+    ∷ rule DiscoveryWrites discovery_writes
+    ∷ rule LongResponse long_response
     ∷ []
 
-unfoldable pub step_refusals : List (Refusal Call)
+unfoldable pub step_refusals : List (Rule Call)
 step_refusals =
-    refusal 70 unsound ∷ refusal 1 small_buffer ∷ map (refusal_of (λ (c : Call). c.packet)) packet_refusals ++ map (refusal_of request) request_refusals
+    rule BadRecord unsound ∷ rule ShortBuffer small_buffer ∷ map (rule_of (λ (c : Call). c.packet)) packet_refusals ++ map (rule_of request) request_refusals
 
-unfoldable pub step_refusal : Call → Option ℕ
+unfoldable pub step_refusal : Call → Option Refusal
 step_refusal c = first_refusal step_refusals c
 
 -- the next record, the answer and the bytes of the buffer
@@ -114,8 +116,8 @@ answer_with [] r buffer = outcome_of (next_board r) Silence buffer
 answer_with (first ∷ rest) r buffer =
     outcome_of (next_board r) (Response (length (packet_of (response r)))) (overwrite buffer 0 (packet_of (response r)))
 
-abbrev pub outcome_by : Option ℕ → Request → List ℕ → Outcome
-outcome_by (some number) r buffer = outcome_of r.board (Refused number) buffer
+abbrev pub outcome_by : Option Refusal → Request → List ℕ → Outcome
+outcome_by (some refusal) r buffer = outcome_of r.board (Refused refusal) buffer
 outcome_by none r buffer = answer_with (reports_of r) r buffer
 
 unfoldable pub step : Call → Outcome

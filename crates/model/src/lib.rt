@@ -2,6 +2,7 @@
 // demands 1, 2 and 3 proved of the definitions; `board` has the code.
 #![tactic(auto)]
 
+use refusals::Refusal;
 use schedule::Schedule;
 use store::Store;
 
@@ -24,25 +25,17 @@ pub struct Board {
     pub parameters: Parameters,
 }
 
-// What set-up and a measurement are answered with.
-#[derive(Clone, Copy)]
-pub enum Verdict {
-    Accepted,
-    // The number of the refusal.
-    Refused(u8),
-}
-
+// What set-up and a measurement are answered with, beside the record.
 #[derive(Clone, Copy)]
 pub struct Answered {
     pub board: Board,
-    pub verdict: Verdict,
+    pub verdict: Result<(), Refusal>,
 }
 
 // What a packet is answered with.
 #[derive(Clone, Copy)]
 pub enum Answer {
-    // The number of the refusal.
-    Refused(u8),
+    Refused(Refusal),
     Silence,
     // The length of the response.
     Response(usize),
