@@ -1,3 +1,2 @@
 pub mod Drafts
-pub mod Running
 pub mod Turns
