@@ -1,7 +1,7 @@
 // Numbers and bytes as text.
 #![tactic(auto)]
 
-ghost use Rattle.std.specs.Prelude.{◌∷◌, [], ◌≡◌, ◌≤◌, ◌<◌, length};
+ghost use Rattle.std.specs.Prelude.{◌∷◌, [], ◌≡◌, ◌≤◌, ◌<◌, drop, length};
 ghost use Rattle.octets.specs.Octets.{Overwrites};
 ghost use Rattle.numerals.specs.Numerals.{hex_digit, hex_bytes, digit, decimal, Before, Holds};
 
@@ -72,6 +72,15 @@ fn write_number(bytes: &mut [u8], end: usize, number: u64) -> usize
 pub struct Numeral {
     pub bytes: [u8; DIGITS],
     pub start: usize,
+}
+
+impl Numeral {
+    // The digits alone.
+    pub fn text(&self) -> &[u8]
+        ensures { result.now ≡ drop self.now.start self.now.bytes }
+    {
+        octets::bytes_after(&self.bytes, self.start)
+    }
 }
 
 // A number in decimal.
