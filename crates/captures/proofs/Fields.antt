@@ -7,7 +7,6 @@ use mathlib.Core.List.{List, [], ◌∷◌, ◌++◌}
 use mathlib.Core.Path.{◌≡◌, refl, sym, ap, ◌∙◌}
 use lib.ListN.{length, take, drop, get_or, length-drop}
 use lib.Seq.{drop-cons, take-append-le, drop-append-le, take_at, drop_at, length-take-le, get_or-drop}
-use Rattle.std.specs.Int.{w16, w32, to_le_bytes}
 use Rattle.captures.specs.Numbers.{Bytes, number_of, bytes_of, field}
 
 -- a number's bytes are as many as asked for, and give it back where it has room in them
@@ -63,18 +62,6 @@ field_four at l h =
     let two : at + 1 + 1 ≡ at + 2 = omega arith in
     let three : at + 2 + 1 ≡ at + 3 = omega arith in
     rw (first, second, two, field_two, three) (omega arith)
-
--- the bytes of a number of two and of four bytes
-pub le_bytes_two : (number : ℕ) → to_le_bytes w16 number ≡ bytes_of 2 number
-unfolding bytes_of
-le_bytes_two number = refl
-
-pub le_bytes_four : (number : ℕ) → to_le_bytes w32 number ≡ bytes_of 4 number
-unfolding bytes_of
-le_bytes_four number =
-    let third : number / 65536 % 256 ≡ number / 256 / 256 % 256 = omega arith in
-    let fourth : number / 16777216 % 256 ≡ number / 256 / 256 / 256 % 256 = omega arith in
-    λ i. number % 256 ∷ number / 256 % 256 ∷ third i ∷ fourth i ∷ []
 
 -- a field looks no further than its bytes
 pub field_front : (at size : ℕ) (l more : List ℕ) → at + size ≤ length l → field at size (l ++ more) ≡ field at size l

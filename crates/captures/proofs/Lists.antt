@@ -39,10 +39,13 @@ module _ (indexes directions counters lengths packets : List ℕ) (i : ℕ) wher
   abbrev pub list_from : List Record
   list_from = record_list (drop i indexes) (drop i directions) (drop i counters) (drop i lengths) packets
 
+  abbrev pub record_there : Record
+  record_there = record_of (get_or indexes i 0) (get_or directions i 0) (get_or counters i 0) (take (get_or lengths i 0) packets)
+
   pub list_step :
       i < length indexes → SideBySide indexes directions counters lengths
       → list_from
-      ≡ record_of (get_or indexes i 0) (get_or directions i 0) (get_or counters i 0) (take (get_or lengths i 0) packets)
+      ≡ record_there
       ∷ record_list (drop (i + 1) indexes) (drop (i + 1) directions) (drop (i + 1) counters) (drop (i + 1) lengths) (drop (get_or lengths i 0) packets)
   unfolding record_list
   list_step h counts =
@@ -51,6 +54,24 @@ module _ (indexes directions counters lengths packets : List ℕ) (i : ℕ) wher
       let in_lengths : i < length lengths = omega arith in
       rw (drop-cons indexes i 0, drop-cons directions i 0, drop-cons counters i 0, drop-cons lengths i 0, add-one)
 
+  pub every_step :
+      (boards : ℕ) → i < length indexes → SideBySide indexes directions counters lengths
+      → every_in_range boards list_from
+      ≡ (record_in_range boards record_there
+      && every_in_range boards
+      (record_list (drop (i + 1) indexes) (drop (i + 1) directions) (drop (i + 1) counters) (drop (i + 1) lengths) (drop (get_or lengths i 0) packets)))
+  unfolding every_in_range
+  every_step boards h counts = ap (every_in_range boards) (list_step h counts)
+
+  pub bytes_step :
+      (version : Version) → i < length indexes → SideBySide indexes directions counters lengths
+      → records_bytes version list_from
+      ≡ record_bytes version record_there
+      ++ records_bytes version
+      (record_list (drop (i + 1) indexes) (drop (i + 1) directions) (drop (i + 1) counters) (drop (i + 1) lengths) (drop (get_or lengths i 0) packets))
+  unfolding records_bytes
+  bytes_step version h counts = ap (records_bytes version) (list_step h counts)
+
   pub list_end : length indexes ≤ i → list_from ≡ []
   unfolding record_list
   list_end h = rw (drop_of_length-le indexes h)
@@ -58,31 +79,6 @@ module _ (indexes directions counters lengths packets : List ℕ) (i : ℕ) wher
   pub no_records : (version : Version) → length indexes ≤ i → records_bytes version list_from ≡ []
   unfolding records_bytes
   no_records version h = ap (records_bytes version) (list_end h)
-
--- by what was found of the record there
-module _
-    (indexes directions counters lengths packets : List ℕ) (i : ℕ) (inside : i < length indexes) (counts : SideBySide indexes directions counters lengths)
-    {size : ℕ} {packet : List ℕ} (sized : size ≡ get_or lengths i 0) (cut : packet ≡ take size packets)
-  where
-    abbrev there : Record
-    there = record_of (get_or indexes i 0) (get_or directions i 0) (get_or counters i 0) packet
-
-    step_there :
-        list_from indexes directions counters lengths packets i ≡ there ∷ list_from indexes directions counters lengths (drop size packets) (i + 1)
-    step_there = rw (cut, sized) (list_step indexes directions counters lengths packets i inside counts)
-
-    pub every_step :
-        (boards : ℕ) {found : Bool} → found ≡ record_in_range boards there
-        → every_in_range boards (list_from indexes directions counters lengths packets i)
-        ≡ (found && every_in_range boards (list_from indexes directions counters lengths (drop size packets) (i + 1)))
-    unfolding every_in_range
-    every_step boards e = ap (every_in_range boards) step_there ∙ rw e
-
-    pub bytes_step :
-        (version : Version) → records_bytes version (list_from indexes directions counters lengths packets i)
-        ≡ record_bytes version there ++ records_bytes version (list_from indexes directions counters lengths (drop size packets) (i + 1))
-    unfolding records_bytes
-    bytes_step version = ap (records_bytes version) step_there
 
 -- how long the bytes of a list are
 length_described :

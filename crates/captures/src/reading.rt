@@ -47,7 +47,7 @@ fn check_mark(capture: &[u8]) -> Check
     framing::passed_if(octets::stands_at(capture, 0, b"VLG"))
 }
 
-#[tactic(auto, using(crate::proofs::Fields::le_bytes_two))]
+#[tactic(auto, unfolding(crate::specs::Numbers::bytes_of))]
 fn is_version(capture: &[u8], version: Version) -> bool
     ensures { result ≡ is_version version capture.now }
 {

@@ -6,7 +6,8 @@ ghost use Rattle.octets.specs.Octets.{overwrite, Overwrites};
 ghost use Rattle.framing.specs.Refusal.{checked};
 ghost use Rattle.captures.specs.Form.{mark, version_number, newest, index_size, ids_at, packet_at, board_limit, record_of, record_bytes, records_bytes, head_bytes, boards_of};
 ghost use Rattle.captures.specs.Numbers.{bytes_of};
-ghost use Rattle.captures.specs.Writing.{wrong_ids, head_call, WritesHead, record_call, WritesRecord, record_list, SideBySide, describes_records, every_in_range, write_call, WritesCapture};
+ghost use Rattle.recording.specs.Given.{list_of, describes, StandSideBySide};
+ghost use Rattle.captures.specs.Writing.{wrong_ids, head_call, WritesHead, record_call, WritesRecord, every_in_range, write_call, WritesCapture};
 
 use captures::Version;
 use captures::writing::Written;
@@ -23,19 +24,21 @@ fn check_ids(ids: &[u8]) -> Check
 }
 
 // What stands before the IDs.
+#[tactic(auto, unfolding(captures::specs::Numbers::bytes_of))]
 fn head_start(boards: usize) -> [u8; captures::IDS_AT]
     requires { boards ≤ board_limit newest }
     ensures { result ≡ mark ++ bytes_of 2 (version_number newest) ++ bytes_of (index_size newest) boards }
 {
-    let version = captures::version_number(Version::Two);
+    let [version_low, version_high] = captures::version_number(Version::Two).to_le_bytes();
+    let [boards_low, boards_high] = (boards as u16).to_le_bytes();
     [
         b'V',
         b'L',
         b'G',
-        (version % 256) as u8,
-        (version / 256) as u8,
-        (boards % 256) as u8,
-        (boards / 256) as u8,
+        version_low,
+        version_high,
+        boards_low,
+        boards_high,
     ]
 }
 
@@ -49,6 +52,7 @@ fn put_head(buffer: &mut [u8], ids: &[u8]) -> bool
 }
 
 // Writes the head of a capture of the boards with these IDs, 16 bytes each, into the first bytes of `buffer`; the rest stays.
+#[tactic(auto, unfolding(captures::specs::Writing::head_call_refusals, framing::specs::Refusal::first_refusal))]
 pub fn write_head(buffer: &mut [u8], ids: &[u8]) -> Written
     ensures { WritesHead (head_call buffer.old ids.now) result buffer.new }
 {
@@ -62,22 +66,15 @@ pub fn write_head(buffer: &mut [u8], ids: &[u8]) -> Written
 }
 
 // What stands before the packet of a record.
+#[tactic(auto, unfolding(captures::specs::Numbers::bytes_of))]
 fn record_start(index: u16, direction: u8, counter: u32, size: usize) -> [u8; captures::PACKET_AT]
     ensures { result ≡ bytes_of (index_size newest) index ++ bytes_of 1 direction ++ bytes_of 4 counter ++ bytes_of 2 size }
 {
-    let second = counter / 256;
-    let third = second / 256;
-    let fourth = third / 256;
+    let [index_low, index_high] = index.to_le_bytes();
+    let [first, second, third, fourth] = counter.to_le_bytes();
+    let [size_low, size_high] = ((size % 65536) as u16).to_le_bytes();
     [
-        (index % 256) as u8,
-        (index / 256) as u8,
-        direction,
-        (counter % 256) as u8,
-        (second % 256) as u8,
-        (third % 256) as u8,
-        (fourth % 256) as u8,
-        (size % 256) as u8,
-        (size / 256 % 256) as u8,
+        index_low, index_high, direction, first, second, third, fourth, size_low, size_high,
     ]
 }
 
@@ -97,6 +94,7 @@ pub fn put_record(
 }
 
 // Writes a record of a capture of so many boards into the first bytes of `buffer`; the rest stays.
+#[tactic(auto, unfolding(captures::specs::Writing::record_call_refusals, framing::specs::Refusal::first_refusal))]
 pub fn write_record(
     buffer: &mut [u8],
     boards: u16,
@@ -120,55 +118,6 @@ pub fn write_record(
     Written::Length(captures::PACKET_AT + packet.len())
 }
 
-// Whether the slices describe a list of records.
-fn check_list(
-    indexes: &[u16],
-    directions: &[u8],
-    counters: &[u32],
-    lengths: &[u16],
-    packets: &[u8],
-) -> Check
-    ensures { result ≡ checked (not (describes_records indexes.now directions.now counters.now lengths.now packets.now)) }
-{
-    if directions.len() != indexes.len() {
-        return Check::Failed;
-    }
-    if counters.len() != indexes.len() {
-        return Check::Failed;
-    }
-    if lengths.len() != indexes.len() {
-        return Check::Failed;
-    }
-    framing::passed_if(octets::adds_up(lengths, packets.len()))
-}
-
-// Whether the fields of each record are in their ranges.
-fn check_fields(
-    boards: usize,
-    indexes: &[u16],
-    directions: &[u8],
-    counters: &[u32],
-    lengths: &[u16],
-    packets: &[u8],
-) -> Check
-    requires { SideBySide indexes.now directions.now counters.now lengths.now }
-    ensures { result ≡ checked (not (every_in_range boards (record_list indexes.now directions.now counters.now lengths.now packets.now))) }
-{
-    let mut left = packets;
-    let mut i: usize = 0;
-    while i < indexes.len() {
-        let length = usize::from(lengths[i]);
-        let packet = octets::first_bytes(left, length);
-        if !captures::in_range(boards, indexes[i], directions[i], packet.len()) {
-            return Check::Failed;
-        }
-        let after = octets::bytes_after(left, length);
-        left = after;
-        i += 1;
-    }
-    Check::Passed
-}
-
 // Refusal 54: the head, with so many bytes of IDs, and so many records, with so many bytes of packets, have room.
 fn check_room(room: usize, ids: usize, records: usize, packets: usize) -> Check
     ensures { result ≡ checked (ltb room (ids_at newest + ids + (packet_at newest * records + packets))) }
@@ -190,45 +139,76 @@ fn check_room(room: usize, ids: usize, records: usize, packets: usize) -> Check
     Check::Passed
 }
 
-// Puts the records into `buffer` from `at` on, where they have room, and says where they end.
-fn put_records(
-    buffer: &mut [u8],
-    at: usize,
-    indexes: &[u16],
-    directions: &[u8],
-    counters: &[u32],
-    lengths: &[u16],
-    packets: &[u8],
-) -> usize
-    requires side_by_side { SideBySide indexes.now directions.now counters.now lengths.now }
-    requires packets_in_bounds { at + length (records_bytes newest (record_list indexes.now directions.now counters.now lengths.now packets.now)) ≤ length buffer.old }
-    ensures value { result ≡ at + length (records_bytes newest (record_list indexes.now directions.now counters.now lengths.now packets.now)) }
-    ensures buffer_after { buffer.new ≡ overwrite buffer.old at (records_bytes newest (record_list indexes.now directions.now counters.now lengths.now packets.now)) }
-{
-    let mut place = at;
-    let mut left = packets;
-    let mut i: usize = 0;
-    while i < indexes.len() {
-        let length = usize::from(lengths[i]);
-        let packet = octets::first_bytes(left, length);
-        put_record(
-            buffer,
-            place,
-            indexes[i],
-            directions[i],
-            counters[i],
-            packet,
-        );
-        place = place + captures::PACKET_AT + packet.len();
-        let after = octets::bytes_after(left, length);
-        left = after;
-        i += 1;
+// Records as a caller gives them: their indexes, directions, counters and lengths of packet in four slices side by side, and their packets
+// one after another.
+#[derive(Clone, Copy)]
+struct Records<'a> {
+    indexes: &'a [u16],
+    directions: &'a [u8],
+    counters: &'a [u32],
+    lengths: &'a [u16],
+    packets: &'a [u8],
+}
+
+impl<'a> Records<'a> {
+    // Whether the slices describe a list of records.
+    fn check_list(&self) -> Check
+        ensures { result ≡ checked (not (describes self.now)) }
+    {
+        let count = self.indexes.len();
+        let side_by_side = self.directions.len() == count && self.counters.len() == count && self.lengths.len() == count;
+        framing::passed_if(side_by_side && octets::adds_up(self.lengths, self.packets.len()))
     }
-    place
+
+    // Whether the fields of each record are in their ranges.
+    #[tactic(auto, using(captures::proofs::Lists::every_step, captures::proofs::Lists::list_end), unfolding(captures::specs::Writing::every_in_range))]
+    fn check_fields(&self, boards: usize) -> Check
+        requires { StandSideBySide self.now }
+        ensures { result ≡ checked (not (every_in_range boards (list_of self.now))) }
+    {
+        let mut left = self.packets;
+        for (i, length) in self.lengths.iter().enumerate() {
+            let size = usize::from(*length);
+            let packet = octets::first_bytes(left, size);
+            if !captures::in_range(boards, self.indexes[i], self.directions[i], packet.len()) {
+                return Check::Failed;
+            }
+            left = octets::bytes_after(left, size);
+        }
+        Check::Passed
+    }
+
+    // Puts the records into `buffer` from `at` on, where they have room, and says where they end.
+    #[tactic(auto, using(captures::proofs::Lists::no_records, captures::proofs::Buffers::put_all))]
+    fn put(&self, buffer: &mut [u8], at: usize) -> usize
+        requires side_by_side { StandSideBySide self.now }
+        requires records_in_bounds { at + length (records_bytes newest (list_of self.now)) ≤ length buffer.old }
+        ensures value { result ≡ at + length (records_bytes newest (list_of self.now)) }
+        ensures buffer_after { buffer.new ≡ overwrite buffer.old at (records_bytes newest (list_of self.now)) }
+    {
+        let mut place = at;
+        let mut left = self.packets;
+        for (i, length) in self.lengths.iter().enumerate() {
+            let size = usize::from(*length);
+            let packet = octets::first_bytes(left, size);
+            put_record(
+                buffer,
+                place,
+                self.indexes[i],
+                self.directions[i],
+                self.counters[i],
+                packet,
+            );
+            place += captures::PACKET_AT + packet.len();
+            left = octets::bytes_after(left, size);
+        }
+        place
+    }
 }
 
 // Writes a capture into the first bytes of `buffer`; the rest stays. The boards' IDs, 16 bytes each, stand one after another; the records
 // have their indexes, directions, counters and lengths of packet in four slices side by side, and their packets one after another.
+#[tactic(auto, using(captures::proofs::Lists::described), unfolding(captures::specs::Writing::write_refusal, captures::specs::Writing::write_refusals, framing::specs::Refusal::first_refusal))]
 pub fn write(
     buffer: &mut [u8],
     ids: &[u8],
@@ -243,11 +223,18 @@ pub fn write(
     let Check::Passed = check_ids(ids) else {
         return Written::Refused(52);
     };
-    let Check::Passed = check_list(indexes, directions, counters, lengths, packets) else {
+    let records = Records {
+        indexes,
+        directions,
+        counters,
+        lengths,
+        packets,
+    };
+    let Check::Passed = records.check_list() else {
         return Written::Refused(53);
     };
     let boards = ids.len() / framing::ID_SIZE;
-    let Check::Passed = check_fields(boards, indexes, directions, counters, lengths, packets) else {
+    let Check::Passed = records.check_fields(boards) else {
         return Written::Refused(53);
     };
     let Check::Passed = check_room(buffer.len(), ids.len(), indexes.len(), packets.len()) else {
@@ -255,8 +242,6 @@ pub fn write(
     };
     put_head(buffer, ids);
     let start = captures::IDS_AT + ids.len();
-    let end = put_records(
-        buffer, start, indexes, directions, counters, lengths, packets,
-    );
+    let end = records.put(buffer, start);
     Written::Length(end)
 }
