@@ -3,29 +3,26 @@ use Prim.Native.Nat.{ℕ, ◌+◌, ◌≤◌}
 use native.Mathlib.Numerals.{unary_clauses}
 use native.Mathlib.Omega.{arith}
 use mathlib.Core.Bool.{Bool, true, false}
-use mathlib.Core.List.{List, [], ◌∷◌, ◌++◌, append-nil}
+use mathlib.Core.List.{List, [], ◌++◌, append-nil}
 use mathlib.Core.Option.{Option, none, some}
 use mathlib.Core.Path.{◌≡◌, sym, ap, ◌∙◌}
 use borrow.Author.Tests.{leb-false, leb-true, lt-ltb, le-ltb}
 use lib.ListN.{length, length-append, take-append-drop}
 use Rattle.octets.specs.Octets.{overwrite, Overwrites, fits}
 use Rattle.octets.proofs.Overwriting.{overwrites, overwrite_after, length_overwrite}
-use Rattle.framing.specs.Refusal.{Refusal, first_refusal}
+use Rattle.refusals.specs.declared.Refusal.{Refusal}
 use Rattle.captures.specs.Writing.{Writes, too_short}
-use Rattle.captures.specs.declared.writing.Written.TheVariants.{Length, Refused}
+use Rattle.std.specs.Prelude.{Ok, Err}
 
--- a call that passes the last condition, too
-pub passed_last : {Call : Type 0} {refused : Option ℕ} (row : Refusal Call) (call : Call) → refused ≡ first_refusal (row ∷ []) call → row.applies call ≡ false → refused ≡ none
-unfolding first_refusal
-passed_last row call so_far h = so_far ∙ rw h
-
-pub refused_as : {refused : Option ℕ} {bytes buffer after : List ℕ} {number : ℕ} → refused ≡ some number → after ≡ buffer → Writes refused bytes buffer (Refused number) after
-refused_as e kept = record { answered = rw e; held = rw e kept }
+-- what the answer of a writer tells: nothing is written where it is refused
+pub refused_kept : {refused : Option Refusal} {bytes buffer after : List ℕ} {refusal : Refusal} → Writes refused bytes buffer (Err refusal) after → after ≡ buffer
+refused_kept {refused = some first} written = written.held
+refused_kept {refused = none} written = let never = written.answered in cc
 
 pub written_as :
-    {refused : Option ℕ} {bytes buffer after : List ℕ} {size : ℕ} → refused ≡ none → size ≡ length bytes → after ≡ overwrite buffer 0 bytes
-    → Writes refused bytes buffer (Length size) after
-written_as e sized held = record { answered = rw e (ap Length sized); held = rw e held }
+    {refused : Option Refusal} {bytes buffer after : List ℕ} {size : ℕ} → refused ≡ none → size ≡ length bytes → after ≡ overwrite buffer 0 bytes
+    → Writes refused bytes buffer (Ok size) after
+written_as e sized held = record { answered = rw e (ap Ok sized); held = rw e held }
 
 -- bytes that do not fit, and bytes that do
 module _ {buffer bytes after : List ℕ} {answer : Bool} (done : Overwrites buffer 0 bytes answer after) where

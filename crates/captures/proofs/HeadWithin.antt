@@ -2,12 +2,12 @@
 use Prim.Native.Nat.{ℕ, ◌≤◌}
 use mathlib.Core.List.{List, [], ◌∷◌, ◌++◌, append-nil}
 use mathlib.Core.Path.{◌≡◌, ap}
+use Rattle.std.specs.Prelude.{Ok}
 use lib.ListN.{length, drop}
 use lib.Seq.{drop-append-le}
 use Rattle.captures.specs.Reading.{ids_in, opened_of}
 use Rattle.captures.specs.Statements.{joined, head_within}
-use Rattle.captures.specs.declared.Version.{Version}
-use Rattle.captures.specs.declared.reading.Opened.TheVariants as opened
+use Rattle.captures.specs.declared.reading.Head.{Head}
 use Rattle.captures.proofs.Opening.{accepted_as}
 use Rattle.captures.proofs.Pieces.{inside, opened_front, ids_front}
 
@@ -23,9 +23,9 @@ ids_within front (piece ∷ pieces) long = ids_front front (piece ++ joined piec
 
 -- the records behind the head go on behind the first piece
 pub records_behind :
-    (front more : List ℕ) {version : Version} {boards ids records : ℕ} → opened_of front ≡ opened.Capture version boards ids records
-    → drop records (front ++ more) ≡ drop records front ++ more
-records_behind front more {records = records} e =
+    (front more : List ℕ) {head : Head} → opened_of front ≡ Ok head
+    → drop head.records (front ++ more) ≡ drop head.records front ++ more
+records_behind front more {head} e =
     let told = accepted_as front e in
-    let within : records ≤ length front = rw told.records_told (inside front told.accepted) in
-    drop-append-le records front more within
+    let within : head.records ≤ length front = rw (ap (λ (h : Head). h.records) told.told) (inside front told.accepted) in
+    drop-append-le head.records front more within

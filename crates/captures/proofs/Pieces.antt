@@ -12,6 +12,7 @@ use lib.Seq.{take-append-le, drop-append-le}
 use Rattle.octets.specs.Octets.{stands_at}
 use Rattle.octets.proofs.Booleans.{both_true, neither}
 use Rattle.framing.specs.Refusal.{first_refusal}
+use Rattle.refusals.specs.declared.Refusal.{Refusal}
 use Rattle.framing.proofs.Refusals.{not_refused}
 use Rattle.captures.specs.Numbers.{bytes_of}
 use Rattle.captures.specs.Form.{mark, version_number, index_size, version_at, count_at, ids_at, board_limit, wrong_count}
@@ -66,9 +67,9 @@ module _ (front more : List ℕ) (long : longest_head ≤ length front) where
     boards_front : wrong_boards version (front ++ more) ≡ wrong_boards version front
     boards_front = boards_by (wrong_count version (board_count version front)) refl
 
-    opened_at : (refused : Option ℕ) → opened_as version refused (front ++ more) ≡ opened_as version refused front
+    opened_at : (refused : Option Refusal) → opened_as version refused (front ++ more) ≡ opened_as version refused front
     opened_at none = rw count_front
-    opened_at (some number) = refl
+    opened_at (some refusal) = refl
 
   pub head_front : head_refusal (front ++ more) ≡ head_refusal front
   unfolding head_refusal head_refusals first_refusal
@@ -77,8 +78,8 @@ module _ (front more : List ℕ) (long : longest_head ≤ length front) where
   pub opened_front : opened_of (front ++ more) ≡ opened_of front
   opened_front = (λ i. opened_as (version_front i) (head_front i) (front ++ more)) ∙ opened_at (version_of front) (head_refusal front)
 
-  ids_at_lem : (refused : Option ℕ) → head_refusal front ≡ refused → ids_as (version_of front) refused (front ++ more) ≡ ids_as (version_of front) refused front
-  ids_at_lem (some number) e = refl
+  ids_at_lem : (refused : Option Refusal) → head_refusal front ≡ refused → ids_as (version_of front) refused (front ++ more) ≡ ids_as (version_of front) refused front
+  ids_at_lem (some refusal) e = refl
   ids_at_lem none e =
       let version = version_of front in
       rw (

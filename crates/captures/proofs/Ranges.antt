@@ -10,6 +10,7 @@ use lib.Dec.{leb}
 use lib.ListN.{length, take, drop, length-take, length-drop}
 use lib.Seq.{length-take-le}
 use Rattle.octets.proofs.Booleans.{both_true}
+use Rattle.refusals.specs.declared.Refusal.{Refusal}
 use Rattle.captures.specs.Form.{ids_at, packet_at, boards_of, fields_in_range}
 use Rattle.captures.specs.Reading.{version_of, board_count, records_at, index_in, direction_in, size_in, Reading, read, records_of, head_refusal, ids_as, records_as}
 use Rattle.captures.specs.Statements.{Within, RecordsWithin}
@@ -45,9 +46,9 @@ within version boards bytes =
     })
     bytes 0
 
-by_head : (capture : List ℕ) (refused : Option ℕ) → head_refusal capture ≡ refused → Within (boards_of (ids_as (version_of capture) refused capture)) (records_as (version_of capture) refused capture)
+by_head : (capture : List ℕ) (refused : Option Refusal) → head_refusal capture ≡ refused → Within (boards_of (ids_as (version_of capture) refused capture)) (records_as (version_of capture) refused capture)
 unfolding Within
-by_head capture (some number) e = tt
+by_head capture (some refusal) e = tt
 by_head capture none e =
     let version = version_of capture in
     let long : 16 * board_count version capture ≤ length (drop (ids_at version) capture) = simp length-drop (omega (arith, inside capture e)) in

@@ -18,7 +18,8 @@ use Rattle.captures.specs.Reading.{Reading, version_of, board_count, records_at,
 use Rattle.captures.specs.Writing.{wrong_ids, every_in_range}
 use Rattle.captures.specs.Statements.{Within, counters_fit, RewritesHold}
 use Rattle.captures.specs.declared.Version.{Version}
-use Rattle.captures.specs.declared.reading.Opened.TheVariants as opened
+use Rattle.captures.specs.declared.reading.Head.{Head}
+use Rattle.std.specs.Prelude.{Ok}
 use Rattle.captures.proofs.Fields.{dropped_small, field_small}
 use Rattle.captures.proofs.Opening.{accepted_as}
 use Rattle.captures.proofs.Pieces.{inside}
@@ -90,8 +91,7 @@ rewrites_hold capture small right =
 
 -- the IDs that stand where `open` says
 pub ids_same :
-    (capture : List ℕ) {version : Version} {boards ids records : ℕ} → opened_of capture ≡ opened.Capture version boards ids records → {size : ℕ} → size ≡ 16 * boards
-    → take size (drop ids capture) ≡ ids_in capture
-ids_same capture e sized =
-    let head = accepted_as capture e in
-    (λ i. take ((sized ∙ ap (λ (n : ℕ). 16 * n) head.boards_told) i) (drop (head.ids_told i) capture)) ∙ sym (ids_read capture head.accepted)
+    (capture : List ℕ) {head : Head} → opened_of capture ≡ Ok head → take (16 * head.boards) (drop head.ids capture) ≡ ids_in capture
+ids_same capture e =
+    let found = accepted_as capture e in
+    ap (λ (h : Head). take (16 * h.boards) (drop h.ids capture)) found.told ∙ sym (ids_read capture found.accepted)

@@ -6,6 +6,8 @@ use mathlib.Core.List.{List}
 use mathlib.Core.Option.{Option, none, some, or_else}
 use mathlib.Core.Path.{◌≡◌, refl, sym, ◌∙◌}
 use Rattle.framing.specs.Refusal.{first_refusal}
+use Rattle.refusals.specs.declared.Refusal.{Refusal}
+use Rattle.refusals.specs.declared.Refusal.TheVariants.{CaptureMark, UnknownVersion, WrongRecord}
 use Rattle.framing.proofs.Refusals.{first_of_joined}
 use Rattle.captures.specs.Form.{newest, index_size, board_limit}
 use Rattle.captures.specs.Reading.{is_version, version_of, wrong_mark, wrong_version, read_in, wrong_record, head_refusals, head_refusal, ids_as, records_as, opened_as}
@@ -35,7 +37,7 @@ version_stands capture known = by_version (is_version One capture) (is_version T
     by_version false false e f h = cc
 
 module _ (version : Version) (capture : List ℕ) (apart : is_version (other version) capture ≡ false) where
-  abbrev alone : Option ℕ
+  abbrev alone : Option Refusal
   alone = first_refusal (head_refusals_of version) capture
 
   version_found : (v : Version) → is_version (other v) capture ≡ false → is_version v capture ≡ true → version_of capture ≡ v
@@ -55,10 +57,10 @@ module _ (version : Version) (capture : List ℕ) (apart : is_version (other ver
       by_one false = rw there
 
   -- whatever is told by version and refusal of the head, and not by the version where there is a refusal
-  module _ {A : Type 0} (told : Version → Option ℕ → A) (same_refused : (number : ℕ) → told (version_of capture) (some number) ≡ told version (some number)) where
-    by_mark : (wrong : Bool) → told (version_of capture) (cond wrong (some 50) (some 51)) ≡ told version (cond wrong (some 50) (some 51))
-    by_mark true = same_refused 50
-    by_mark false = same_refused 51
+  module _ {A : Type 0} (told : Version → Option Refusal → A) (same_refused : (refusal : Refusal) → told (version_of capture) (some refusal) ≡ told version (some refusal)) where
+    by_mark : (wrong : Bool) → told (version_of capture) (cond wrong (some CaptureMark) (some UnknownVersion)) ≡ told version (cond wrong (some CaptureMark) (some UnknownVersion))
+    by_mark true = same_refused CaptureMark
+    by_mark false = same_refused UnknownVersion
 
     by_found : (mine : Bool) → is_version version capture ≡ mine → told (version_of capture) (head_refusal capture) ≡ told version alone
     unfolding head_refusal head_refusals head_refusals_of first_refusal
@@ -68,7 +70,7 @@ module _ (version : Version) (capture : List ℕ) (apart : is_version (other ver
     told_alike : told (version_of capture) (head_refusal capture) ≡ told version alone
     told_alike = by_found (is_version version capture) refl
 
-  alone_then : first_refusal (capture_refusals_of version) capture ≡ or_else alone (cond (wrong_record (read_in version capture)) (some 53) none)
+  alone_then : first_refusal (capture_refusals_of version) capture ≡ or_else alone (cond (wrong_record (read_in version capture)) (some WrongRecord) none)
   unfolding capture_refusals_of first_refusal
   alone_then = first_of_joined capture (head_refusals_of version) _
 
@@ -76,12 +78,12 @@ module _ (version : Version) (capture : List ℕ) (apart : is_version (other ver
   unfolding or_else
   read_apart =
       record {
-        opened_same = told_alike (λ v o. opened_as v o capture) (λ number. refl);
-        ids_same = told_alike (λ v o. ids_as v o capture) (λ number. refl);
-        records_same = told_alike (λ v o. records_as v o capture) (λ number. refl);
+        opened_same = told_alike (λ v o. opened_as v o capture) (λ refusal. refl);
+        ids_same = told_alike (λ v o. ids_as v o capture) (λ refusal. refl);
+        records_same = told_alike (λ v o. records_as v o capture) (λ refusal. refl);
         refused_as =
             refusal_then capture
-            ∙ told_alike (λ v o. or_else o (cond (wrong_record (read_in v capture)) (some 53) none)) (λ number. refl)
+            ∙ told_alike (λ v o. or_else o (cond (wrong_record (read_in v capture)) (some WrongRecord) none)) (λ refusal. refl)
             ∙ sym alone_then;
       }
 

@@ -1,14 +1,15 @@
 -- Reading a capture: its IDs, its records, and its refusal if there is one.
-use Rattle.std.specs.Prelude.{ℕ, zero, suc, ◌+◌, ◌-◌, ◌*◌, Bool, true, cond, not, ◌||◌, List, [], ◌∷◌, ◌++◌, ltb, eqb, length, take, drop}
+use Rattle.std.specs.Prelude.{ℕ, zero, suc, ◌+◌, ◌-◌, ◌*◌, Bool, true, cond, not, ◌||◌, List, [], ◌∷◌, ◌++◌, Result, Ok, Err, ltb, eqb, length, take, drop}
 use Rattle.std.proofs.Math.Option.{Option, none, some}
 use Rattle.octets.specs.Octets.{stands_at}
-use Rattle.framing.specs.Refusal.{Refusal, refusal, first_refusal}
+use Rattle.framing.specs.Refusal.{Rule, rule, first_refusal}
+use Rattle.refusals.specs.declared.Refusal.{Refusal}
+use Rattle.refusals.specs.declared.Refusal.TheVariants.{CaptureMark, UnknownVersion, WrongBoards, WrongRecord}
 use Rattle.captures.specs.Numbers.{bytes_of, field}
 use Rattle.captures.specs.Form.{mark, version_number, index_size, version_at, count_at, ids_at, direction_at, counter_at, size_at, packet_at, Record, record_of, wrong_count, fields_in_range}
 use Rattle.captures.specs.declared.Version.{Version}
 use Rattle.captures.specs.declared.Version.TheVariants.{One, Two}
-use Rattle.captures.specs.declared.reading.Opened.{Opened}
-use Rattle.captures.specs.declared.reading.Opened.TheVariants as opened
+use Rattle.captures.specs.declared.reading.Head.{Head}
 use Rattle.captures.specs.declared.reading.NextRecord.{NextRecord}
 use Rattle.captures.specs.declared.reading.NextRecord.TheVariants as next
 
@@ -36,14 +37,14 @@ wrong_version capture = not (is_version One capture || is_version Two capture)
 abbrev pub wrong_boards : Version → List ℕ → Bool
 wrong_boards version capture = wrong_count version (board_count version capture) || ltb (length capture) (records_at version capture)
 
-unfoldable pub head_refusals : List (Refusal (List ℕ))
+unfoldable pub head_refusals : List (Rule (List ℕ))
 head_refusals =
-    refusal 50 wrong_mark
-    ∷ refusal 51 wrong_version
-    ∷ refusal 52 (λ (capture : List ℕ). wrong_boards (version_of capture) capture)
+    rule CaptureMark wrong_mark
+    ∷ rule UnknownVersion wrong_version
+    ∷ rule WrongBoards (λ (capture : List ℕ). wrong_boards (version_of capture) capture)
     ∷ []
 
-unfoldable pub head_refusal : List ℕ → Option ℕ
+unfoldable pub head_refusal : List ℕ → Option Refusal
 head_refusal capture = first_refusal head_refusals capture
 
 -- the parts of the record at the start of these bytes
@@ -106,38 +107,38 @@ abbrev pub reading_of : List ℕ → Reading
 reading_of capture = read_in (version_of capture) capture
 
 -- 50, 51, 52, 53
-unfoldable pub capture_refusals : List (Refusal (List ℕ))
-capture_refusals = head_refusals ++ refusal 53 (λ (capture : List ℕ). wrong_record (reading_of capture)) ∷ []
+unfoldable pub capture_refusals : List (Rule (List ℕ))
+capture_refusals = head_refusals ++ rule WrongRecord (λ (capture : List ℕ). wrong_record (reading_of capture)) ∷ []
 
-unfoldable pub capture_refusal : List ℕ → Option ℕ
+unfoldable pub capture_refusal : List ℕ → Option Refusal
 capture_refusal capture = first_refusal capture_refusals capture
 
 -- the IDs, 16 bytes each, and the records before the refusal; neither where 50 to 52 refuse the capture
-abbrev pub ids_as : Version → Option ℕ → List ℕ → List ℕ
+abbrev pub ids_as : Version → Option Refusal → List ℕ → List ℕ
 ids_as version none capture = take (16 * board_count version capture) (drop (ids_at version) capture)
-ids_as version (some number) capture = []
+ids_as version (some refusal) capture = []
 
 abbrev pub ids_in : List ℕ → List ℕ
 ids_in capture = ids_as (version_of capture) (head_refusal capture) capture
 
-abbrev pub records_as : Version → Option ℕ → List ℕ → List Record
+abbrev pub records_as : Version → Option Refusal → List ℕ → List Record
 records_as version none capture = records_of (read_in version capture)
-records_as version (some number) capture = []
+records_as version (some refusal) capture = []
 
 abbrev pub records_in : List ℕ → List Record
 records_in capture = records_as (version_of capture) (head_refusal capture) capture
 
--- the answer of `open`: version, board count and where IDs and records stand, or the number of the refusal
-abbrev pub opened_as : Version → Option ℕ → List ℕ → Opened
-opened_as version none capture = opened.Capture version (board_count version capture) (ids_at version) (records_at version capture)
-opened_as version (some number) capture = opened.Refused number
+-- the answer of `open`: version, board count and where IDs and records stand, or the refusal
+abbrev pub head_as : Version → List ℕ → Head
+head_as version capture =
+    record { version = version; boards = board_count version capture; ids = ids_at version; records = records_at version capture }
 
-abbrev pub opened_of : List ℕ → Opened
+abbrev pub opened_as : Version → Option Refusal → List ℕ → Result Head Refusal
+opened_as version none capture = Ok (head_as version capture)
+opened_as version (some refusal) capture = Err refusal
+
+abbrev pub opened_of : List ℕ → Result Head Refusal
 opened_of capture = opened_as (version_of capture) (head_refusal capture) capture
-
-abbrev pub opened_number : Opened → ℕ
-opened_number (opened.Capture version boards ids records) = 0
-opened_number (opened.Refused number) = number
 
 -- the answer of `next_record`: what stands first, a record by the places of its parts
 abbrev pub next_record : Version → ℕ → List ℕ → NextRecord
@@ -149,9 +150,9 @@ next_record version boards bytes =
     (next.Record (index_in version bytes) (direction_in version bytes) (counter_in version bytes) (length bytes - packet_at version)
     (length bytes - (packet_at version + size_in version bytes))))))
 
--- the number of its refusal, where nothing stands behind these bytes
-abbrev pub next_number : NextRecord → ℕ
-next_number (next.Record index direction counter packet rest) = 0
-next_number next.End = 0
-next_number next.Cut = 53
-next_number next.Wrong = 53
+-- its refusal, where nothing stands behind these bytes
+abbrev pub next_refusal : NextRecord → Option Refusal
+next_refusal (next.Record index direction counter packet rest) = none
+next_refusal next.End = none
+next_refusal next.Cut = some WrongRecord
+next_refusal next.Wrong = some WrongRecord

@@ -1,26 +1,26 @@
 -- What holds of captures, beside the contracts.
-use Rattle.std.specs.Prelude.{ℕ, ◌+◌, ◌-◌, ◌*◌, ◌^◌, ◌<◌, ◌≤◌, true, false, cond, not, List, [], ◌∷◌, ◌++◌, ◌≡◌, length, take, drop, get_or}
-use Rattle.std.proofs.Math.Option
-use Rattle.std.proofs.Math.Option.{none}
-use Rattle.framing.specs.Refusal.{Refusal, refusal, first_refusal}
+use Rattle.std.specs.Prelude.{ℕ, ◌+◌, ◌-◌, ◌*◌, ◌^◌, ◌<◌, ◌≤◌, true, false, cond, not, List, [], ◌∷◌, ◌++◌, Result, Ok, Err, ◌≡◌, length, take, drop, get_or}
+use Rattle.std.proofs.Math.Option.{Option, none, some}
+use Rattle.framing.specs.Refusal.{Rule, rule, first_refusal}
+use Rattle.refusals.specs.declared.Refusal.{Refusal}
+use Rattle.refusals.specs.declared.Refusal.TheVariants.{CaptureMark, UnknownVersion, WrongBoards, WrongRecord}
 use Rattle.captures.specs.Numbers.{Bytes}
 use Rattle.captures.specs.Form.{newest, Record, record_of, board_limit, ids_at, record_bytes, boards_of, head_bytes, capture_bytes}
-use Rattle.captures.specs.Reading.{Reading, left, wrong, item, is_version, version_of, board_count, wrong_mark, wrong_boards, read, read_in, reading_of, head_refusal, capture_refusal, ids_as, ids_in, records_as, records_in, opened_as, opened_of, opened_number, next_record, next_number, wrong_record}
+use Rattle.captures.specs.Reading.{Reading, left, wrong, item, is_version, version_of, board_count, wrong_mark, wrong_boards, read, read_in, reading_of, head_refusal, capture_refusal, ids_as, ids_in, records_as, records_in, opened_as, opened_of, next_record, next_refusal, wrong_record}
 use Rattle.captures.specs.Writing.{wrong_ids, every_in_range, WriteCall, records_given, write_refusal}
 use Rattle.captures.specs.declared.Version.{Version}
 use Rattle.captures.specs.declared.Version.TheVariants.{One, Two}
-use Rattle.captures.specs.declared.reading.Opened.{Opened}
-use Rattle.captures.specs.declared.reading.Opened.TheVariants as opened
+use Rattle.captures.specs.declared.reading.Head.{Head}
 use Rattle.captures.specs.declared.reading.NextRecord.{NextRecord}
 use Rattle.captures.specs.declared.reading.NextRecord.TheVariants as next
 
 -- the conditions of a reader that knows one version alone
-unfoldable pub head_refusals_of : Version → List (Refusal (List ℕ))
+unfoldable pub head_refusals_of : Version → List (Rule (List ℕ))
 head_refusals_of version =
-    refusal 50 wrong_mark ∷ refusal 51 (λ (capture : List ℕ). not (is_version version capture)) ∷ refusal 52 (wrong_boards version) ∷ []
+    rule CaptureMark wrong_mark ∷ rule UnknownVersion (λ (capture : List ℕ). not (is_version version capture)) ∷ rule WrongBoards (wrong_boards version) ∷ []
 
-unfoldable pub capture_refusals_of : Version → List (Refusal (List ℕ))
-capture_refusals_of version = head_refusals_of version ++ refusal 53 (λ (capture : List ℕ). wrong_record (read_in version capture)) ∷ []
+unfoldable pub capture_refusals_of : Version → List (Rule (List ℕ))
+capture_refusals_of version = head_refusals_of version ++ rule WrongRecord (λ (capture : List ℕ). wrong_record (read_in version capture)) ∷ []
 
 -- what that reader gives
 pub record ReadAs (version : Version) (capture : List ℕ) : Type 0 where
@@ -138,23 +138,23 @@ ReadStep =
     (version : Version) (boards : ℕ) (bytes : List ℕ)
     → read version boards bytes ≡ read_after (read version boards) bytes (next_record version boards bytes)
 
--- the number of the records' refusal, 0 for none
-abbrev pub records_number : Version → ℕ → List ℕ → ℕ
-records_number version boards bytes = cond (wrong_record (read version boards bytes)) 53 0
+-- the refusal of records
+abbrev pub records_refusal : Version → ℕ → List ℕ → Option Refusal
+records_refusal version boards bytes = cond (wrong_record (read version boards bytes)) (some WrongRecord) none
 
-abbrev pub number_after : (List ℕ → ℕ) → List ℕ → NextRecord → ℕ
-number_after again bytes next.End = next_number next.End
-number_after again bytes next.Cut = next_number next.Cut
-number_after again bytes next.Wrong = next_number next.Wrong
-number_after again bytes (next.Record index direction counter packet rest) = again (drop (length bytes - rest) bytes)
+abbrev pub refusal_after : (List ℕ → Option Refusal) → List ℕ → NextRecord → Option Refusal
+refusal_after again bytes next.End = next_refusal next.End
+refusal_after again bytes next.Cut = next_refusal next.Cut
+refusal_after again bytes next.Wrong = next_refusal next.Wrong
+refusal_after again bytes (next.Record index direction counter packet rest) = again (drop (length bytes - rest) bytes)
 
-abbrev pub number_as : List ℕ → Opened → ℕ
-number_as capture (opened.Refused number) = opened_number (opened.Refused number)
-number_as capture (opened.Capture version boards ids records) = records_number version boards (drop records capture)
+abbrev pub refusal_told : List ℕ → Result Head Refusal → Option Refusal
+refusal_told capture (Err refusal) = some refusal
+refusal_told capture (Ok head) = records_refusal head.version head.boards (drop head.records capture)
 
 -- the refusal of a capture is told by `open`, or by the last answer of `next_record`
 pub record RefusalsTold : Type 0 where
-  pub by_head : (capture : List ℕ) → Option.get_or (capture_refusal capture) 0 ≡ number_as capture (opened_of capture)
+  pub by_head : (capture : List ℕ) → capture_refusal capture ≡ refusal_told capture (opened_of capture)
   pub by_record :
       (version : Version) (boards : ℕ) (bytes : List ℕ)
-      → records_number version boards bytes ≡ number_after (records_number version boards) bytes (next_record version boards bytes)
+      → records_refusal version boards bytes ≡ refusal_after (records_refusal version boards) bytes (next_record version boards bytes)

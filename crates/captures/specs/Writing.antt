@@ -1,25 +1,25 @@
 -- Writing a capture of the newest version, its head or one of its records: the bytes, or the refusal.
-use Rattle.std.specs.Prelude.{ℕ, ◌%◌, Bool, true, not, ◌&&◌, ◌||◌, List, [], ◌∷◌, ◌≡◌, ltb, eqb, length, take, drop}
+use Rattle.std.specs.Prelude.{ℕ, ◌%◌, Bool, true, not, ◌&&◌, ◌||◌, List, [], ◌∷◌, Result, Ok, Err, ◌≡◌, ltb, eqb, length, take, drop}
 use Rattle.std.proofs.Math.Option.{Option, none, some}
 use Rattle.octets.specs.Octets.{overwrite, sum}
-use Rattle.framing.specs.Refusal.{Refusal, refusal, first_refusal}
+use Rattle.framing.specs.Refusal.{Rule, rule, first_refusal}
+use Rattle.refusals.specs.declared.Refusal.{Refusal}
+use Rattle.refusals.specs.declared.Refusal.TheVariants.{NoSpace, WrongBoards, WrongRecord}
 use Rattle.captures.specs.Form.{newest, Record, record_of, record_bytes, boards_of, head_bytes, capture_bytes, wrong_count, fields_in_range}
 use Rattle.captures.specs.declared.Version.{Version}
-use Rattle.captures.specs.declared.writing.Written.{Written}
-use Rattle.captures.specs.declared.writing.Written.TheVariants.{Length, Refused}
 
--- the answer: the length of the bytes, or the number of the refusal
-abbrev pub written_as : Option ℕ → List ℕ → Written
-written_as none bytes = Length (length bytes)
-written_as (some number) bytes = Refused number
+-- the answer: the length of the bytes, or the refusal
+abbrev pub written_as : Option Refusal → List ℕ → Result ℕ Refusal
+written_as none bytes = Ok (length bytes)
+written_as (some refusal) bytes = Err refusal
 
 -- the buffer after it: the bytes in its first ones, or as it was
-abbrev pub buffer_as : Option ℕ → List ℕ → List ℕ → List ℕ
+abbrev pub buffer_as : Option Refusal → List ℕ → List ℕ → List ℕ
 buffer_as none buffer bytes = overwrite buffer 0 bytes
-buffer_as (some number) buffer bytes = buffer
+buffer_as (some refusal) buffer bytes = buffer
 
 -- these bytes, or this refusal
-pub record Writes (refused : Option ℕ) (bytes buffer : List ℕ) (answer : Written) (after : List ℕ) : Type 0 where
+pub record Writes (refused : Option Refusal) (bytes buffer : List ℕ) (answer : Result ℕ Refusal) (after : List ℕ) : Type 0 where
   pub answered : answer ≡ written_as refused bytes
   pub held : after ≡ buffer_as refused buffer bytes
 
@@ -42,13 +42,13 @@ pub record HeadCall : Type 0 where
 abbrev pub head_call : List ℕ → List ℕ → HeadCall
 head_call buffer ids = record { buffer = buffer; ids = ids }
 
-unfoldable pub head_call_refusals : List (Refusal HeadCall)
+unfoldable pub head_call_refusals : List (Rule HeadCall)
 head_call_refusals =
-    refusal 52 (λ (call : HeadCall). wrong_ids newest call.ids)
-    ∷ refusal 54 (λ (call : HeadCall). too_short call.buffer (head_bytes newest call.ids))
+    rule WrongBoards (λ (call : HeadCall). wrong_ids newest call.ids)
+    ∷ rule NoSpace (λ (call : HeadCall). too_short call.buffer (head_bytes newest call.ids))
     ∷ []
 
-abbrev pub WritesHead : HeadCall → Written → List ℕ → Type 0
+abbrev pub WritesHead : HeadCall → Result ℕ Refusal → List ℕ → Type 0
 WritesHead call answer after = Writes (first_refusal head_call_refusals call) (head_bytes newest call.ids) call.buffer answer after
 
 -- what a call of `write_record` is given: the board count of the capture, and the record
@@ -60,14 +60,14 @@ pub record RecordCall : Type 0 where
 abbrev pub record_call : List ℕ → ℕ → Record → RecordCall
 record_call buffer boards given = record { buffer = buffer; boards = boards; given = given }
 
-unfoldable pub record_call_refusals : List (Refusal RecordCall)
+unfoldable pub record_call_refusals : List (Rule RecordCall)
 record_call_refusals =
-    refusal 52 (λ (call : RecordCall). wrong_count newest call.boards)
-    ∷ refusal 53 (λ (call : RecordCall). not (record_in_range call.boards call.given))
-    ∷ refusal 54 (λ (call : RecordCall). too_short call.buffer (record_bytes newest call.given))
+    rule WrongBoards (λ (call : RecordCall). wrong_count newest call.boards)
+    ∷ rule WrongRecord (λ (call : RecordCall). not (record_in_range call.boards call.given))
+    ∷ rule NoSpace (λ (call : RecordCall). too_short call.buffer (record_bytes newest call.given))
     ∷ []
 
-abbrev pub WritesRecord : RecordCall → Written → List ℕ → Type 0
+abbrev pub WritesRecord : RecordCall → Result ℕ Refusal → List ℕ → Type 0
 WritesRecord call answer after = Writes (first_refusal record_call_refusals call) (record_bytes newest call.given) call.buffer answer after
 
 -- what a call of `write` is given: the IDs one after another; index, direction, counter and length of the records side by side; their
@@ -123,16 +123,16 @@ abbrev pub bytes_given : WriteCall → List ℕ
 bytes_given call = capture_bytes newest call.ids (records_given call)
 
 -- 53 is for slices that describe no records, and for a field outside its range
-unfoldable pub write_refusals : List (Refusal WriteCall)
+unfoldable pub write_refusals : List (Rule WriteCall)
 write_refusals =
-    refusal 52 (λ (call : WriteCall). wrong_ids newest call.ids)
-    ∷ refusal 53 (λ (call : WriteCall). not (describes_records call.indexes call.directions call.counters call.lengths call.packets))
-    ∷ refusal 53 (λ (call : WriteCall). not (every_in_range (boards_of call.ids) (records_given call)))
-    ∷ refusal 54 (λ (call : WriteCall). too_short call.buffer (bytes_given call))
+    rule WrongBoards (λ (call : WriteCall). wrong_ids newest call.ids)
+    ∷ rule WrongRecord (λ (call : WriteCall). not (describes_records call.indexes call.directions call.counters call.lengths call.packets))
+    ∷ rule WrongRecord (λ (call : WriteCall). not (every_in_range (boards_of call.ids) (records_given call)))
+    ∷ rule NoSpace (λ (call : WriteCall). too_short call.buffer (bytes_given call))
     ∷ []
 
-unfoldable pub write_refusal : WriteCall → Option ℕ
+unfoldable pub write_refusal : WriteCall → Option Refusal
 write_refusal call = first_refusal write_refusals call
 
-abbrev pub WritesCapture : WriteCall → Written → List ℕ → Type 0
+abbrev pub WritesCapture : WriteCall → Result ℕ Refusal → List ℕ → Type 0
 WritesCapture call answer after = Writes (write_refusal call) (bytes_given call) call.buffer answer after

@@ -2,7 +2,6 @@
 #![tactic(auto)]
 
 pub mod reading;
-pub mod writing;
 
 ghost use Rattle.std.specs.Prelude.{◌≡◌, ◌≤◌};
 ghost use Rattle.framing.specs.Refusal.{checked};

@@ -7,19 +7,15 @@ ghost use Rattle.captures.specs.Reading.{is_version, version_of, board_count, wr
 
 use super::Version;
 use framing::Check;
+use refusals::Refusal;
 
-// The head of a capture.
+// The head of a capture: so many boards, whose IDs of 16 bytes each stand from `ids` on. The records stand from `records` on.
 #[derive(Clone, Copy)]
-pub enum Opened {
-    // So many boards: their IDs of 16 bytes each stand from `ids` on, the records from `records` on.
-    Capture {
-        version: Version,
-        boards: u16,
-        ids: usize,
-        records: usize,
-    },
-    // The number of the refusal.
-    Refused(u8),
+pub struct Head {
+    pub version: Version,
+    pub boards: u16,
+    pub ids: usize,
+    pub records: usize,
 }
 
 // What stands first in what is left of a capture's records.
@@ -117,26 +113,26 @@ fn check_boards(capture: &[u8], version: Version) -> Check
 
 // The head of a capture.
 #[tactic(auto, unfolding(crate::specs::Reading::head_refusals, crate::specs::Reading::head_refusal, framing::specs::Refusal::first_refusal))]
-pub fn open(capture: &[u8]) -> Opened
+pub fn open(capture: &[u8]) -> Result<Head, Refusal>
     ensures { result ≡ opened_of capture.now }
 {
     let Check::Passed = check_mark(capture) else {
-        return Opened::Refused(50);
+        return Err(Refusal::CaptureMark);
     };
     let Check::Passed = check_version(capture) else {
-        return Opened::Refused(51);
+        return Err(Refusal::UnknownVersion);
     };
     let version = version_of(capture);
     let Check::Passed = check_boards(capture, version) else {
-        return Opened::Refused(52);
+        return Err(Refusal::WrongBoards);
     };
     let boards = board_count(capture, version);
-    Opened::Capture {
+    Ok(Head {
         version,
         boards,
         ids: ids_at(version),
         records: records_at(version, boards),
-    }
+    })
 }
 
 // The number of two bytes that stands at a place.
