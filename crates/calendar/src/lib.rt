@@ -17,6 +17,7 @@ fn days_of_months(year: u8, months: u8) -> u16
 }
 
 // The days of the first years from 2000 on.
+#[tactic(auto, using(crate::proofs::Formulas::years_by_lem))]
 fn days_of_years(years: u8) -> u16
     requires { years < 100 }
     ensures { (result ≡ days_of_years years) × (result ≤ 36525) }
@@ -25,6 +26,7 @@ fn days_of_years(years: u8) -> u16
     365 * years + (years + 3) / 4
 }
 
+#[tactic(auto, using(crate::proofs::Formulas::months_and_next))]
 fn days_in(year: u8, month: u8) -> u16
     requires { (year < 100) × (0 < month) × (month ≤ 12) }
     ensures { result ≡ days_in (2000 + year) month }
