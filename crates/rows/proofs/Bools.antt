@@ -3,7 +3,7 @@ use Prim.Native.Nat.{ℕ}
 use native.Mathlib.Omega.{arith}
 use mathlib.Core.Bool.{Bool, true, false, ◌&&◌, ◌||◌, false≢true}
 use mathlib.Core.Logic.{◌⊎◌, inl, inr}
-use mathlib.Core.Option.{Option, none, some}
+use Rattle.std.specs.Prelude.{Option, None, Some}
 use mathlib.Core.Path.{◌≡◌, refl, sym, ◌∙◌}
 use lib.Dec.{T}
 
@@ -24,5 +24,5 @@ both true b t = (tt, t)
 both false b t = absurd t
 
 -- nothing is no value
-pub no_value : {A : Type 0} (x : A) → ◌≡◌ {A = Option A} none (some x) → ⊥
-no_value x h = let z : ◌≡◌ {A = ℕ} 0 1 = cc in omega arith
+pub no_value : {A : Type 0} (x : A) → ◌≡◌ {A = Option A} None (Some x) → ⊥
+no_value x h = cc

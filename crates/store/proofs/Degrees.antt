@@ -58,9 +58,6 @@ told v t b e = by (eqb (low_first_number v) sensor_missing) refl (eqb (low_first
         let same : bits_of t.tenths ≡ low_first_number v = ap (λ (x : Tenths). bits_of x.tenths) read ∙ bits_back (low_first_number v) (omega (arith, b 0, b 1)) in
         record { no_mark = rw (same, p, q); same = same }
 
-pub unmarked : (v : List ℕ) (t : Tenths) → ((i : ℕ) → get_or v i 0 < 256) → reading_of (low_first_number v) ≡ Temperature t → is_mark (bits_of t.tenths) ≡ false
-unmarked v t b e = (told v t b e).no_mark
-
 pub tenths_stored : (s : Store) (k : ℕ) (v : List ℕ) (t : Tenths) → ((i : ℕ) → get_or v i 0 < 256) → (row_at k).quantity ≡ quantity.Tenths
     → reading_of (low_first_number v) ≡ Temperature t → with_value_at s k (bytes_of 2 (bits_of t.tenths)) ≡ with_value_at s k v
 tenths_stored s k v t b e read =

@@ -4,12 +4,12 @@ use native.Mathlib.Omega.{arith}
 use mathlib.Core.Bool.{Bool, true, false, cond, not, ◌&&◌, ◌||◌}
 use mathlib.Core.List.{List}
 use mathlib.Core.Logic.{◌⊎◌, inl, inr, ⊎_elim}
-use mathlib.Core.Option.{Option, none, some, map}
+use Rattle.std.specs.Prelude.{Option, None, Some, option_map, Ok, Err}
 use mathlib.Core.Path.{◌≡◌, refl, sym, ap, ◌∙◌, subst}
 use borrow.Author.Tests.{eqb-false, leb-true, lt-leb, not-true}
 use lib.Dec.{eqb, leb}
 use lib.ListN.{length}
-use Rattle.store.specs.declared.Measurement.TheVariants.{Accepted, NotMeasured, WrongLength}
+use Rattle.refusals.specs.declared.Refusal.TheVariants.{NotMeasured, MeasuredLength}
 use Rattle.rows.specs.declared.Range.{Range}
 use Rattle.store.specs.declared.Store.{Store}
 use Rattle.rows.specs.Rows.{Set, Number, Row, rows, row_of, index_of, allows, known, is_identity}
@@ -29,9 +29,9 @@ use Rattle.store.proofs.Soundness as soundness
 use Rattle.store.proofs.Starts as starts
 
 -- what holds of a store, and of it with the new value, holds after an operation
-kept : (P : Store → Type 0) (s : Store) (n : ℕ) (o : Option (List ℕ)) → P s → ((v : List ℕ) → o ≡ some v → P (with_value s n v)) → P (stored s n o)
-kept P s n none p q = p
-kept P s n (some v) p q = q v refl
+kept : (P : Store → Type 0) (s : Store) (n : ℕ) (o : Option (List ℕ)) → P s → ((v : List ℕ) → o ≡ Some v → P (with_value s n v)) → P (stored s n o)
+kept P s n None p q = p
+kept P s n (Some v) p q = q v refl
 
 pub size_kept : SizeKept
 size_kept o s n sized = kept Sized s n (new_value o s n) sized (λ v e. size_with s sized (index_of s.unit n) v)
@@ -70,19 +70,19 @@ identity_read_only unit n e =
     (either (leb (row_of unit n).functions 1) (not (is_identity n))
     (tested (unwritten_identity n (row_of unit n)) (each_number unwritten_identity tt (λ k. tt) unit n)))
 
-not_allowed : {A : Type 0} (unit n f : ℕ) (x : Option A) (y : A) → is_identity n ≡ true → 1 < f → cond (allows unit n f) x none ≡ some y → ⊥
+not_allowed : {A : Type 0} (unit n f : ℕ) (x : Option A) (y : A) → is_identity n ≡ true → 1 < f → cond (allows unit n f) x None ≡ Some y → ⊥
 not_allowed unit n f x y e k h =
     let no : allows unit n f ≡ false = lt-leb f (row_of unit n).functions (omega (arith, identity_read_only unit n e)) in
-    no_value y (sym (ap (λ (b : Bool). cond b x none) no) ∙ h)
+    no_value y (sym (ap (λ (b : Bool). cond b x None) no) ∙ h)
 
-not_new : (o : Operation) (s : Store) (n : ℕ) (v : List ℕ) → is_identity n ≡ true → new_value o s n ≡ some v → ⊥
+not_new : (o : Operation) (s : Store) (n : ℕ) (v : List ℕ) → is_identity n ≡ true → new_value o s n ≡ Some v → ⊥
 not_new (Write w) s n v e h = not_allowed s.unit n 2 _ v e (omega arith) h
 not_new Raise s n v e h = not_allowed s.unit n 4 _ v e (omega arith) h
 not_new Lower s n v e h = not_allowed s.unit n 5 _ v e (omega arith) h
 not_new (Measure w) s n v e h = choose (known s.unit n && not (allows s.unit n 2)) h
   where
     choose :
-        (b : Bool) → accepted (cond (b && not (is_identity n)) (cond (eqb (length w) (size_of (row_of s.unit n).set)) Accepted WrongLength) NotMeasured) w ≡ some v
+        (b : Bool) → accepted (cond (b && not (is_identity n)) (cond (eqb (length w) (size_of (row_of s.unit n).set)) (Ok tt) (Err MeasuredLength)) (Err NotMeasured)) w ≡ Some v
         → ⊥
     choose true k = no_value v (rw e at k)
     choose false k = no_value v k
@@ -107,17 +107,17 @@ start_sound id unit size = starts.start_sound id unit size
 
 -- raising and lowering: the number found, or nothing changes
 module _ (o : Operation) (s : Store) (n size : ℕ) (r : Range) (sized : Sized s) (row : (row_of s.unit n).set ≡ Number size r) where
-  step : (found : Option ℕ) → ((y : ℕ) → found ≡ some y → in_range r y ≡ true) → new_value o s n ≡ map (bytes_of size) found
-      → ((y : ℕ) × (found ≡ some y) × (held_number (after o s n) n ≡ y)) ⊎ ((found ≡ none) × (after o s n ≡ s))
-  step none h e = inr (refl, ap (stored s n) e)
-  step (some y) h e =
-      let bytes : Bytes size r (some y) (bytes_of size y) = next_bytes size r (some y) (bytes_of size y) (subst (λ (t : Set). numbered t ≡ true) row (numbered_row s.unit n)) h refl in
+  step : (found : Option ℕ) → ((y : ℕ) → found ≡ Some y → in_range r y ≡ true) → new_value o s n ≡ option_map (bytes_of size) found
+      → ((y : ℕ) × (found ≡ Some y) × (held_number (after o s n) n ≡ y)) ⊎ ((found ≡ None) × (after o s n ≡ s))
+  step None h e = inr (refl, ap (stored s n) e)
+  step (Some y) h e =
+      let bytes : Bytes size r (Some y) (bytes_of size y) = next_bytes size r (Some y) (bytes_of size y) (subst (λ (t : Set). numbered t ≡ true) row (numbered_row s.unit n)) h refl in
       let same : bytes.number ≡ y = cc bytes.found in
       inl (y, refl, ap low_first_number (read_back o s n (bytes_of size y) sized e) ∙ bytes.back ∙ same)
 
   -- the new value of a row that allows the function
   moves : (next : Range → ℕ → Option ℕ) (f : ℕ) → allows s.unit n f ≡ true
-      → cond (allows s.unit n f) (neighbour next (row_of s.unit n).set (value_of s n)) none ≡ map (bytes_of size) (next r (held_number s n))
+      → cond (allows s.unit n f) (neighbour next (row_of s.unit n).set (value_of s n)) None ≡ option_map (bytes_of size) (next r (held_number s n))
   moves next f e = rw (e, row)
 
 pub raise_least : RaiseLeast

@@ -1,7 +1,5 @@
 pub mod Slots
 pub mod Members
-pub mod Neighbours
-pub mod TwosComplement
 pub mod Degrees
 pub mod Measurements
 pub mod Starts

@@ -1,16 +1,23 @@
--- A measurement that is turned down stores nothing.
+-- What the answer of a measurement says of its parameter and of the store after it.
 use Prim.Native.Nat.{ℕ}
-use mathlib.Core.List.{List, [], ◌∷◌}
-use mathlib.Core.Option.{none}
+use mathlib.Core.List.{List}
 use mathlib.Core.Path.{◌≡◌, refl}
-use denote.Enum.Declared.{tag_of}
-use types.Run.{OneOf, miss}
-use Rattle.store.specs.declared.Measurement.{Measurement}
-use Rattle.store.specs.declared.Measurement.TheVariants.{Accepted, NotMeasured, WrongLength}
-use Rattle.store.specs.Operations.{accepted}
-use Rattle.store.specs.contracts.Measurement as declared
+use Rattle.std.specs.Prelude.{Result, Ok, Err}
+use Rattle.refusals.specs.declared.Refusal.{Refusal}
+use Rattle.store.specs.declared.Store.{Store}
+use Rattle.store.specs.Operations.{measurement, measured, answered_as, measured_as}
 
-pub refused : (m : Measurement) (v : List ℕ) → OneOf (1 ∷ 2 ∷ []) (tag_of declared.the_type m) → accepted m v ≡ none
-refused Accepted v h = absurd (miss (1 ∷ 2 ∷ []) 0 tt h)
-refused NotMeasured v h = refl
-refused WrongLength v h = refl
+ok_by : (m : Result (Unit {0}) Refusal) (to after : Store) → answered_as to m ≡ Ok after → (m ≡ Ok tt) × (after ≡ to)
+ok_by (Ok tt) to after e = (refl, cc)
+ok_by (Err refusal) to after e = cc
+
+err_by : (m : Result (Unit {0}) Refusal) (to : Store) (refusal : Refusal) → answered_as to m ≡ Err refusal → m ≡ Err refusal
+err_by (Ok done) to refusal e = cc
+err_by (Err own) to refusal e = cc
+
+pub measured_ok : (s : Store) (n : ℕ) (v : List ℕ) (after : Store) → measured_as s n v ≡ Ok after
+    → (measurement s.unit n v ≡ Ok tt) × (after ≡ measured s n v)
+measured_ok s n v after e = ok_by (measurement s.unit n v) (measured s n v) after e
+
+pub measured_err : (s : Store) (n : ℕ) (v : List ℕ) (refusal : Refusal) → measured_as s n v ≡ Err refusal → measurement s.unit n v ≡ Err refusal
+measured_err s n v refusal e = err_by (measurement s.unit n v) (measured s n v) refusal e

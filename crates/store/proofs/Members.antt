@@ -1,36 +1,20 @@
--- Laws of switches, and of the rows of a store in turn.
+-- The rows of a store in turn.
 use Prim.Native.Nat.{ℕ, suc, ◌+◌, ◌≤◌, ◌<◌}
 use native.Mathlib.Numerals.{add-one}
 use mathlib.Core.Bool.{Bool, true, false, not, ◌&&◌, ◌||◌}
 use mathlib.Core.List.{List}
 use mathlib.Core.Path.{◌≡◌, refl, ap, ◌∙◌}
-use lib.Dec.{eqb}
-use lib.ListN.{length, get_or, drop, drop_of_length-le}
+use lib.ListN.{drop, drop_of_length-le}
 use lib.Seq.{drop-cons}
-use Rattle.rows.specs.Rows.{Set, Switch, Number, Text, Free, Clock, Calendar, Time, Row, rows, no_row, row_at, has}
+use Rattle.rows.specs.Rows.{Row, rows, no_row, row_at, has}
 use Rattle.rows.specs.Sets.{member}
 use Rattle.rows.specs.Layout.{row_count, set_at}
-use Rattle.rows.specs.Columns.{kind_of}
 use Rattle.rows.proofs.Found.{index_of_row}
-use Rattle.rows.proofs.SetColumns.{kind_switch}
 use Rattle.rows.proofs.Tables.{rows_length}
 use Rattle.store.specs.declared.Store.{Store}
 use Rattle.store.specs.Layout.{value_at, value_of}
-use Rattle.store.specs.Operations.{inverts, legal}
+use Rattle.store.specs.Operations.{legal}
 use Rattle.store.specs.Sound.{sound_rows}
-
--- only a switch is inverted
-pub no_switch : (set : Set) (v : List ℕ) → (kind_of set ≡ 0 → ⊥) → false ≡ inverts set v
-no_switch Switch v e = absurd (e refl)
-no_switch (Number size r) v e = refl
-no_switch (Text shortest longest) v e = refl
-no_switch (Free size) v e = refl
-no_switch Clock v e = refl
-no_switch Calendar v e = refl
-no_switch Time v e = refl
-
-pub a_switch : (set : Set) (v : List ℕ) → kind_of set ≡ 0 → (eqb (length v) 1 && eqb (get_or v 0 0) 2) ≡ inverts set v
-a_switch set v e = ap (λ (s : Set). inverts s v) (kind_switch set e)
 
 -- whether the row at an index holds a value of its set, by its number and by its index
 own_row : (s : Store) (k : ℕ) → k < row_count

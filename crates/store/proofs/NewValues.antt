@@ -4,14 +4,14 @@ use native.Mathlib.Omega.{arith}
 use mathlib.Core.Bool.{Bool, true, false, cond, not, false≢true, ◌&&◌, ◌||◌}
 use mathlib.Core.List.{List, [], ◌∷◌, ◌++◌, append-nil}
 use mathlib.Core.Logic.{⊎_elim}
-use mathlib.Core.Option.{Option, none, some, map}
+use Rattle.std.specs.Prelude.{Option, None, Some, option_map, Ok, Err}
 use mathlib.Core.Path.{◌≡◌, refl, sym, ap, ◌∙◌, subst}
 use borrow.Author.Tests.{eq-eqb, eqb-true, leb-true, lt-ltb, ltb-true, not-true}
 use lib.Dec.{eqb, leb, ltb}
 use lib.ListN.{length, get_or, take, drop, replicate}
 use lib.Seq.{take_all, take_at}
 use Rattle.octets.specs.Octets.{between}
-use Rattle.store.specs.declared.Measurement.TheVariants.{Accepted, NotMeasured, WrongLength}
+use Rattle.refusals.specs.declared.Refusal.TheVariants.{NotMeasured, MeasuredLength}
 use Rattle.rows.specs.declared.Range.{Range}
 use Rattle.store.specs.declared.Store.{Store}
 use Rattle.rows.specs.Rows.{Set, Switch, Number, Text, Free, Clock, Calendar, Time, Row, rows, row_at, row_of, allows, known, is_identity, index_of}
@@ -19,12 +19,10 @@ use Rattle.rows.specs.Rule.{Fits}
 use Rattle.rows.specs.Sets.{low_first_number, bytes_of, in_range, greatest, printable, is_clock, is_calendar, is_time, member, least_above, greatest_below}
 use Rattle.rows.specs.Layout.{size_of, is_text}
 use Rattle.store.specs.Layout.{filled, to_slot, from_slot, value_of}
-use Rattle.rows.specs.Columns.{kind_of}
 use Rattle.store.specs.Operations.{inverts, inverse, neighbour, measurable, accepted}
 use Rattle.store.specs.Laws.{Operation, Write, Raise, Lower, Measure, new_value}
 use Rattle.octets.proofs.Booleans.{both_true}
 use Rattle.rows.proofs.Bools.{either, not_both, no_value, tested}
-use Rattle.rows.proofs.SetColumns.{kind_free}
 use Rattle.store.proofs.Searches.{range_most, least_above_lem, greatest_below_lem}
 use Rattle.rows.proofs.Rule.{everywhere, rows_follow}
 use Rattle.rows.proofs.Tables.{each_row}
@@ -106,7 +104,7 @@ inverse_member Calendar v held e = absurd (false≢true e)
 inverse_member Time v held e = absurd (false≢true e)
 
 write_member : (set : Set) (v held w : List ℕ) (a b c : Bool) → member set v ≡ b → inverts set v ≡ c
-    → cond a (cond b (some v) (cond c (some (inverse held)) none)) none ≡ some w → member set w ≡ true
+    → cond a (cond b (Some v) (cond c (Some (inverse held)) None)) None ≡ Some w → member set w ≡ true
 write_member set v held w true true c p q h = let same : v ≡ w = cc in ap (member set) (sym same) ∙ p
 write_member set v held w true false true p q h =
     let same : inverse held ≡ w = cc in
@@ -157,15 +155,15 @@ number_back size x r e h =
 -- the bytes of a neighbour are that number
 pub record Bytes (size : ℕ) (r : Range) (o : Option ℕ) (w : List ℕ) : Type 0 where
   pub number : ℕ
-  pub found : o ≡ some number
+  pub found : o ≡ Some number
   pub within : in_range r number ≡ true
   pub sized : length w ≡ size
   pub back : low_first_number w ≡ number
 
-pub next_bytes : (size : ℕ) (r : Range) (o : Option ℕ) (w : List ℕ) → numbered (Number size r) ≡ true → ((y : ℕ) → o ≡ some y → in_range r y ≡ true)
-    → map (bytes_of size) o ≡ some w → Bytes size r o w
-next_bytes size r none w e h k = absurd (no_value w k)
-next_bytes size r (some y) w e h k =
+pub next_bytes : (size : ℕ) (r : Range) (o : Option ℕ) (w : List ℕ) → numbered (Number size r) ≡ true → ((y : ℕ) → o ≡ Some y → in_range r y ≡ true)
+    → option_map (bytes_of size) o ≡ Some w → Bytes size r o w
+next_bytes size r None w e h k = absurd (no_value w k)
+next_bytes size r (Some y) w e h k =
     let same : bytes_of size y ≡ w = cc in
     let num = number_back size y r e (range_most r y (h y refl)) in
     record {
@@ -178,10 +176,10 @@ next_bytes size r (some y) w e h k =
 
 -- both searches stay in the range
 abbrev Stays : (Range → ℕ → Option ℕ) → Type 0
-Stays next = (r : Range) (x y : ℕ) → next r x ≡ some y → in_range r y ≡ true
+Stays next = (r : Range) (x y : ℕ) → next r x ≡ Some y → in_range r y ≡ true
 
 neighbour_member : (next : Range → ℕ → Option ℕ) → Stays next → (set : Set) (held w : List ℕ) → numbered set ≡ true
-    → neighbour next set held ≡ some w → member set w ≡ true
+    → neighbour next set held ≡ Some w → member set w ≡ true
 neighbour_member next stays (Number size r) held w e h =
     let found : Bytes size r (next r (low_first_number held)) w = next_bytes size r (next r (low_first_number held)) w e (λ y k. stays r (low_first_number held) y k) h in
     rw (eq-eqb (length w) size found.sized, found.back) found.within
@@ -193,24 +191,42 @@ neighbour_member next stays Calendar held w e h = absurd (no_value w h)
 neighbour_member next stays Time held w e h = absurd (no_value w h)
 
 allowed_member : (next : Range → ℕ → Option ℕ) → Stays next → (unit n : ℕ) (held w : List ℕ) (a : Bool)
-    → cond a (neighbour next (row_of unit n).set held) none ≡ some w → member (row_of unit n).set w ≡ true
+    → cond a (neighbour next (row_of unit n).set held) None ≡ Some w → member (row_of unit n).set w ≡ true
 allowed_member next stays unit n held w true h = neighbour_member next stays (row_of unit n).set held w (numbered_row unit n) h
 allowed_member next stays unit n held w false h = absurd (no_value w h)
 
 -- a row that is not written takes any bytes of its size
+abbrev is_free : Set → Bool
+is_free Switch = false
+is_free (Number size r) = false
+is_free (Text shortest longest) = false
+is_free (Free size) = true
+is_free Clock = false
+is_free Calendar = false
+is_free Time = false
+
+free_set : (set : Set) → is_free set ≡ true → Free (size_of set) ≡ set
+free_set Switch e = absurd (false≢true e)
+free_set (Number size r) e = absurd (false≢true e)
+free_set (Text shortest longest) e = absurd (false≢true e)
+free_set (Free size) e = refl
+free_set Clock e = absurd (false≢true e)
+free_set Calendar e = absurd (false≢true e)
+free_set Time e = absurd (false≢true e)
+
 unwritten_free : Row → Bool
-unwritten_free r = leb 2 r.functions || eqb (kind_of r.set) 3
+unwritten_free r = leb 2 r.functions || is_free r.set
 
 free_row : (unit n : ℕ) → allows unit n 2 ≡ false → Free (size_of (row_of unit n).set) ≡ (row_of unit n).set
 unfolding rows unwritten_free
 free_row unit n e =
     ⊎_elim
     (λ p. absurd (not_both p e))
-    (λ p. kind_free (row_of unit n).set (eqb-true (kind_of (row_of unit n).set) 3 p))
-    (either (allows unit n 2) (eqb (kind_of (row_of unit n).set) 3) (tested (unwritten_free (row_of unit n)) (each_row unwritten_free tt tt (index_of unit n))))
+    (λ p. free_set (row_of unit n).set p)
+    (either (allows unit n 2) (is_free (row_of unit n).set) (tested (unwritten_free (row_of unit n)) (each_row unwritten_free tt tt (index_of unit n))))
 
 measure_member : (unit n : ℕ) (v w : List ℕ) (a b : Bool) → measurable unit n ≡ a → eqb (length v) (size_of (row_of unit n).set) ≡ b
-    → accepted (cond a (cond b Accepted WrongLength) NotMeasured) v ≡ some w → member (row_of unit n).set w ≡ true
+    → accepted (cond a (cond b (Ok tt) (Err MeasuredLength)) (Err NotMeasured)) v ≡ Some w → member (row_of unit n).set w ≡ true
 measure_member unit n v w true true p q h =
     let same : v ≡ w = cc in
     let unwritten : allows unit n 2 ≡ false =
@@ -219,7 +235,7 @@ measure_member unit n v w true true p q h =
 measure_member unit n v w true false p q h = absurd (no_value w h)
 measure_member unit n v w false b p q h = absurd (no_value w h)
 
-pub new_member : (operation : Operation) (s : Store) (n : ℕ) (w : List ℕ) → new_value operation s n ≡ some w → member (row_of s.unit n).set w ≡ true
+pub new_member : (operation : Operation) (s : Store) (n : ℕ) (w : List ℕ) → new_value operation s n ≡ Some w → member (row_of s.unit n).set w ≡ true
 new_member (Write v) s n w h =
     write_member (row_of s.unit n).set v (value_of s n) w (allows s.unit n 2) (member (row_of s.unit n).set v) (inverts (row_of s.unit n).set v) refl refl h
 new_member Raise s n w h = allowed_member least_above (λ r x y k. (least_above_lem r x y k).within) s.unit n (value_of s n) w (allows s.unit n 4) h

@@ -1,6 +1,5 @@
 -- What holds of every operation on a store.
-use Rattle.std.specs.Prelude.{ℕ, ◌≤◌, ◌<◌, true, false, List, [], ◌∷◌, ◌⊎◌, ◌≡◌, length}
-use Rattle.std.proofs.Math.Option.{Option, some}
+use Rattle.std.specs.Prelude.{ℕ, ◌≤◌, ◌<◌, true, false, List, [], ◌∷◌, ◌⊎◌, ◌≡◌, length, Option, Some}
 use Rattle.octets.specs.Octets.{between}
 use Rattle.rows.specs.declared.Range.{Range}
 use Rattle.rows.specs.Layout.{store_size}
@@ -56,7 +55,7 @@ IdentityKept =
 -- a value read is the value stored
 abbrev pub ReadBack : Type 0
 ReadBack =
-    (operation : Operation) (store : Store) (n : ℕ) (value : List ℕ) → Sized store → new_value operation store n ≡ some value
+    (operation : Operation) (store : Store) (n : ℕ) (value : List ℕ) → Sized store → new_value operation store n ≡ Some value
     → value_of (after operation store n) n ≡ value
 
 abbrev pub SoundKept : Type 0

@@ -1,23 +1,19 @@
 -- What a write, a raise, a lower and a measurement make of a store, and what a command is answered with.
-use Rattle.std.specs.Prelude.{ℕ, Bool, false, cond, not, ◌&&◌, List, [], ◌∷◌, ◌≡◌, eqb, length, get_or}
-use Rattle.std.proofs.Math.Option.{Option, none, some, map}
+use Rattle.std.specs.Prelude.{ℕ, Bool, false, cond, not, ◌&&◌, List, [], ◌∷◌, eqb, length, get_or, Option, None, Some, option_map, Result, Ok, Err}
+use Rattle.refusals.specs.declared.Refusal.{Refusal}
+use Rattle.refusals.specs.declared.Refusal.TheVariants.{NotMeasured, MeasuredLength}
 use Rattle.rows.specs.declared.Range.{Range}
 use Rattle.rows.specs.Layout.{size_of}
 use Rattle.rows.specs.Rows.{Set, Switch, Number, Text, Free, Clock, Calendar, Time, row_of, index_of, allows, known, is_identity}
 use Rattle.rows.specs.Sets.{low_first_number, bytes_of, member, least_above, greatest_below}
 use Rattle.store.specs.declared.Answer.{Answer}
 use Rattle.store.specs.declared.Answer.TheVariants.{Value, Unknown, Silence}
-use Rattle.store.specs.declared.Found.{Found}
-use Rattle.store.specs.declared.Found.TheVariants.{At, Nothing}
-use Rattle.store.specs.declared.Measured.{Measured}
-use Rattle.store.specs.declared.Measurement.{Measurement}
-use Rattle.store.specs.declared.Measurement.TheVariants.{Accepted, NotMeasured, WrongLength}
 use Rattle.store.specs.declared.Store.{Store}
 use Rattle.store.specs.Layout.{value_of, with_value}
 
 -- looking a number up
-abbrev pub found : ℕ → ℕ → Found
-found unit n = cond (known unit n) (At (index_of unit n)) Nothing
+abbrev pub found : ℕ → ℕ → Option ℕ
+found unit n = cond (known unit n) (Some (index_of unit n)) None
 
 -- whether a parameter may hold a value, in a store
 abbrev pub legal : Store → ℕ → List ℕ → Bool
@@ -41,48 +37,45 @@ abbrev pub write_value : Store → ℕ → List ℕ → Option (List ℕ)
 write_value store n value =
     cond (allows store.unit n 2)
     (cond (legal store n value)
-    (some value)
-    (cond (inverts (row_of store.unit n).set value) (some (inverse (value_of store n))) none))
-    none
+    (Some value)
+    (cond (inverts (row_of store.unit n).set value) (Some (inverse (value_of store n))) None))
+    None
 
 -- a number's neighbour, in as many bytes
 abbrev pub neighbour : (Range → ℕ → Option ℕ) → Set → List ℕ → Option (List ℕ)
-neighbour next Switch held = none
-neighbour next (Number size r) held = map (bytes_of size) (next r (low_first_number held))
-neighbour next (Text shortest longest) held = none
-neighbour next (Free size) held = none
-neighbour next Clock held = none
-neighbour next Calendar held = none
-neighbour next Time held = none
+neighbour next Switch held = None
+neighbour next (Number size r) held = option_map (bytes_of size) (next r (low_first_number held))
+neighbour next (Text shortest longest) held = None
+neighbour next (Free size) held = None
+neighbour next Clock held = None
+neighbour next Calendar held = None
+neighbour next Time held = None
 
 abbrev pub raise_value : Store → ℕ → Option (List ℕ)
-raise_value store n = cond (allows store.unit n 4) (neighbour least_above (row_of store.unit n).set (value_of store n)) none
+raise_value store n = cond (allows store.unit n 4) (neighbour least_above (row_of store.unit n).set (value_of store n)) None
 
 abbrev pub lower_value : Store → ℕ → Option (List ℕ)
-lower_value store n = cond (allows store.unit n 5) (neighbour greatest_below (row_of store.unit n).set (value_of store n)) none
+lower_value store n = cond (allows store.unit n 5) (neighbour greatest_below (row_of store.unit n).set (value_of store n)) None
 
 -- a measurement is for a read-only row other than the two of the identity, and has its row's size
 abbrev pub measurable : ℕ → ℕ → Bool
 measurable unit n = known unit n && not (allows unit n 2) && not (is_identity n)
 
-abbrev pub measurement : ℕ → ℕ → List ℕ → Measurement
-measurement unit n value = cond (measurable unit n) (cond (eqb (length value) (size_of (row_of unit n).set)) Accepted WrongLength) NotMeasured
+-- whether a measurement is accepted, or why it is refused
+abbrev pub measurement : ℕ → ℕ → List ℕ → Result (Unit {0}) Refusal
+measurement unit n value =
+    cond (measurable unit n)
+    (cond (eqb (length value) (size_of (row_of unit n).set)) (Ok tt) (Err MeasuredLength))
+    (Err NotMeasured)
 
-abbrev pub accepted : Measurement → List ℕ → Option (List ℕ)
-accepted Accepted value = some value
-accepted NotMeasured value = none
-accepted WrongLength value = none
-
--- the refusal's number, 0 for none
-abbrev pub refusal_of : Measurement → ℕ
-refusal_of Accepted = 0
-refusal_of NotMeasured = 30
-refusal_of WrongLength = 31
+abbrev pub accepted : Result (Unit {0}) Refusal → List ℕ → Option (List ℕ)
+accepted (Ok done) value = Some value
+accepted (Err refusal) value = None
 
 -- the store after an operation on a parameter: the new value, or nothing changes
 abbrev pub stored : Store → ℕ → Option (List ℕ) → Store
-stored store n (some value) = with_value store n value
-stored store n none = store
+stored store n (Some value) = with_value store n value
+stored store n None = store
 
 abbrev pub written : Store → ℕ → List ℕ → Store
 written store n value = stored store n (write_value store n value)
@@ -96,10 +89,13 @@ lowered store n = stored store n (lower_value store n)
 abbrev pub measured : Store → ℕ → List ℕ → Store
 measured store n value = stored store n (accepted (measurement store.unit n value) value)
 
--- what a measurement returns
-pub record Measures (store : Store) (n : ℕ) (value : List ℕ) (result : Measured) : Type 0 where
-  pub answered : result.answer ≡ measurement store.unit n value
-  pub held : result.store ≡ measured store n value
+-- what a measurement returns: the store after it, or why it is refused
+abbrev pub answered_as : Store → Result (Unit {0}) Refusal → Result Store Refusal
+answered_as after (Ok done) = Ok after
+answered_as after (Err refusal) = Err refusal
+
+abbrev pub measured_as : Store → ℕ → List ℕ → Result Store Refusal
+measured_as store n value = answered_as (measured store n value) (measurement store.unit n value)
 
 -- which parameters an operation on a parameter may change
 abbrev pub affected : ℕ → ℕ → Bool

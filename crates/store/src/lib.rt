@@ -2,13 +2,12 @@
 #![tactic(auto)]
 
 ghost use Rattle.std.specs.Prelude.{cond, not, ◌||◌, [], ◌∷◌, ◌≡◌};
-ghost use Rattle.std.proofs.Math.Option.{none};
 ghost use Rattle.rows.specs.Layout.{set_at};
 ghost use Rattle.rows.specs.Rows.{row_at, row_of, has as has_of, allows as allows_of, is_identity};
 ghost use Rattle.rows.specs.Sets.{least_above, greatest_below, member};
 ghost use Rattle.store.specs.Layout.{value_at, value_in, value_of};
 ghost use Rattle.store.specs.Operations.{found, inverts as inverts_of, inverse as inverse_of, neighbour as neighbour_of, stored};
-ghost use Rattle.store.specs.Operations.{written, raised, lowered, measurable, measurement, Measures, answer};
+ghost use Rattle.store.specs.Operations.{written, raised, lowered, measurable, measurement, measured_as, answer};
 ghost use Rattle.store.specs.Start.{start as start_of, with_identity};
 ghost use Rattle.store.specs.Sound.{sound as sound_of};
 
@@ -17,10 +16,11 @@ mod start_bytes;
 mod temperatures;
 mod tenths;
 
-use layout::{part, value_at, with_value_at};
+use layout::{value_at, with_value_at};
+use refusals::Refusal;
 use rows::lookup::{allows, has, index_of, kind_at, size_at};
-use rows::sets::{Next, is_member, low_first_number, neighbour};
-use rows::{ID, UNIT_TYPE};
+use rows::sets::{is_member, low_first_number, neighbour};
+use rows::{ID, Kind, UNIT_TYPE};
 use temperatures::store_value;
 
 // The bytes of an ID.
@@ -37,13 +37,6 @@ pub struct Store {
     pub bytes: [u8; BYTES],
 }
 
-// Where a number stands in the table of rows.
-#[derive(Clone, Copy)]
-pub enum Found {
-    At(usize),
-    Nothing,
-}
-
 // What a command is answered with.
 #[derive(Clone, Copy)]
 pub enum Answer {
@@ -52,28 +45,14 @@ pub enum Answer {
     Silence,
 }
 
-// What a measurement is answered with: refusal 30 is NotMeasured, 31 is WrongLength.
-#[derive(Clone, Copy)]
-pub enum Measurement {
-    Accepted,
-    NotMeasured,
-    WrongLength,
-}
-
-#[derive(Clone, Copy)]
-pub struct Measured {
-    pub answer: Measurement,
-    pub store: Store,
-}
-
-// Looks a number up in the table of rows.
-pub fn find(unit: u8, number: u16) -> Found
+// Where a number stands in the table of rows.
+pub fn find(unit: u8, number: u16) -> Option<usize>
     ensures { result ≡ found unit number }
 {
     if allows(unit, number, 1) {
-        return Found::At(index_of(unit, number));
+        return Some(index_of(unit, number));
     }
-    Found::Nothing
+    None
 }
 
 // The value that a parameter holds, as a part of the bytes of a store of this unit type; an unknown parameter holds none.
@@ -86,22 +65,13 @@ pub fn held(bytes: &[u8], unit: u8, number: u16) -> &[u8]
 fn inverts(index: usize, value: &[u8]) -> bool
     ensures { result ≡ inverts_of (set_at index) value.now }
 {
-    if kind_at(index) != rows::SWITCH {
-        return false;
-    }
-    if value.len() != 1 {
-        return false;
-    }
-    value[0] == 2
+    kind_at(index) == Kind::Switch && matches!(value, [2])
 }
 
 fn inverse(held: &[u8]) -> u8
     ensures { result ∷ [] ≡ inverse_of held.now }
 {
-    if octets::byte_at(held, 0) == 0 {
-        return 1;
-    }
-    0
+    u8::from(octets::byte_at(held, 0) == 0)
 }
 
 // Functions 02 and 03: stores a value of the row's set, and inverts a switch that is written 2.
@@ -116,8 +86,7 @@ pub fn write(store: Store, number: u16, value: &[u8]) -> Store
         return store_value(store, number, value);
     }
     if inverts(index, value) {
-        let bytes = store.bytes;
-        let inverted = [inverse(value_at(&bytes, index))];
+        let inverted = [inverse(value_at(&store.bytes, index))];
         return store_value(store, number, &inverted);
     }
     store
@@ -125,24 +94,21 @@ pub fn write(store: Store, number: u16, value: &[u8]) -> Store
 
 // The next value up or down, where the row allows the function.
 fn move_to_neighbour(store: Store, number: u16, function: u8, up: bool) -> Store
-    ensures { result ≡ stored store number (cond (allows_of store.unit number function) (neighbour_of (cond up least_above greatest_below) (row_of store.unit number).set (value_of store number)) none) }
+    ensures { result ≡ stored store number (cond (allows_of store.unit number function) (neighbour_of (cond up least_above greatest_below) (row_of store.unit number).set (value_of store number)) None) }
 {
     if !allows(store.unit, number, function) {
         return store;
     }
     let index = index_of(store.unit, number);
-    if kind_at(index) != rows::NUMBER {
+    if kind_at(index) != Kind::Number {
         return store;
     }
-    let bytes = store.bytes;
-    let held = low_first_number(value_at(&bytes, index));
-    let Next::To(next) = neighbour(index, held, up) else {
+    let held = low_first_number(value_at(&store.bytes, index));
+    let Some(next) = neighbour(index, held, up) else {
         return store;
     };
-    let low = (next % 256) as u8;
-    let high = (next / 256 % 256) as u8;
-    let both = [low, high];
-    store_value(store, number, part(&both, 0, size_at(index)))
+    let both = next.to_le_bytes();
+    store_value(store, number, octets::first_bytes(&both, size_at(index)))
 }
 
 // Function 04: the least value above the one held.
@@ -168,39 +134,27 @@ fn is_identity(number: u16) -> bool
 fn is_measurable(unit: u8, number: u16) -> bool
     ensures { result ≡ measurable unit number }
 {
-    if !allows(unit, number, 1) {
-        return false;
-    }
-    if allows(unit, number, 2) {
-        return false;
-    }
-    !is_identity(number)
+    allows(unit, number, 1) && !allows(unit, number, 2) && !is_identity(number)
 }
 
-fn judge(unit: u8, number: u16, value: &[u8]) -> Measurement
+fn judge(unit: u8, number: u16, value: &[u8]) -> Result<(), Refusal>
     ensures { result ≡ measurement unit number value.now }
 {
     if !is_measurable(unit, number) {
-        return Measurement::NotMeasured;
+        return Err(Refusal::NotMeasured);
     }
     if value.len() != size_at(index_of(unit, number)) {
-        return Measurement::WrongLength;
+        return Err(Refusal::MeasuredLength);
     }
-    Measurement::Accepted
+    Ok(())
 }
 
 // Sets a read-only row other than the two of the identity.
-pub fn measure(store: Store, number: u16, value: &[u8]) -> Measured
-    ensures { Measures store number value.now result }
+pub fn measure(store: Store, number: u16, value: &[u8]) -> Result<Store, Refusal>
+    ensures { result ≡ measured_as store number value.now }
 {
-    let answer = judge(store.unit, number, value);
-    let Measurement::Accepted = answer else {
-        return Measured { answer, store };
-    };
-    Measured {
-        answer: Measurement::Accepted,
-        store: store_value(store, number, value),
-    }
+    judge(store.unit, number, value)?;
+    Ok(store_value(store, number, value))
 }
 
 // What a command is answered with.
@@ -209,12 +163,8 @@ pub fn answered_with(unit: u8, function: u8, number: u16) -> Answer
 {
     match function {
         2 => Answer::Silence,
-        _ => {
-            if allows(unit, number, 1) {
-                return Answer::Value;
-            }
-            Answer::Unknown
-        }
+        _ if allows(unit, number, 1) => Answer::Value,
+        _ => Answer::Unknown,
     }
 }
 
@@ -249,23 +199,15 @@ pub fn start(id: [u8; ID_SIZE], unit: u8) -> Store
 fn row_sound(bytes: &[u8], unit: u8, index: usize) -> bool
     ensures { result ≡ (not (has_of unit (row_at index)) || member (set_at index) (value_at bytes.now index)) }
 {
-    if !has(unit, index) {
-        return true;
-    }
-    is_member(index, value_at(bytes, index))
+    !has(unit, index) || is_member(index, value_at(bytes, index))
 }
 
 // Whether each row that the unit type has holds a value of its set.
 pub fn sound(store: Store) -> bool
     ensures { result ≡ sound_of store }
 {
-    let unit = store.unit;
-    let bytes = store.bytes;
-    let mut index: usize = 0;
-    while index < rows::ROWS {
-        if row_sound(&bytes, unit, index) {
-            index += 1;
-        } else {
+    for index in 0..rows::ROWS {
+        if !row_sound(&store.bytes, store.unit, index) {
             return false;
         }
     }

@@ -36,10 +36,7 @@ fn store_tenths(store: Store, index: usize, temperature: Tenths) -> Store
     requires { ((row_at index).quantity ≡ Quantity.Tenths) × (is_mark (bits_of temperature.tenths) ≡ false) }
     ensures { result ≡ with_value_at store index (bytes_of 2 (bits_of temperature.tenths)) }
 {
-    let bits = bits_of(temperature);
-    let low = (bits % 256) as u8;
-    let high = (bits / 256 % 256) as u8;
-    let value = [low, high];
+    let value = bits_of(temperature).to_le_bytes();
     with_value_at(store, index, &value)
 }
 
@@ -57,10 +54,10 @@ fn store_measured(store: Store, index: usize, value: &[u8]) -> Store
     requires { (row_at index).quantity ≡ Quantity.Tenths }
     ensures { result ≡ with_value_at store index value.now }
 {
-    let Reading::Temperature(temperature) = reading_of(low_first_number(value)) else {
-        return with_value_at(store, index, value);
-    };
-    store_tenths(store, index, temperature)
+    match reading_of(low_first_number(value)) {
+        Reading::Temperature(temperature) => store_tenths(store, index, temperature),
+        _ => with_value_at(store, index, value),
+    }
 }
 
 // Stores a value: the way of every operation.
@@ -68,8 +65,7 @@ pub fn store_value(store: Store, number: u16, value: &[u8]) -> Store
     ensures { result ≡ with_value store number value.now }
 {
     let index = index_of(store.unit, number);
-    let quantity = quantity_at(index);
-    match quantity {
+    match quantity_at(index) {
         Quantity::Plain => with_value_at(store, index, value),
         Quantity::Tenths => store_measured(store, index, value),
         Quantity::WholeDegrees => {

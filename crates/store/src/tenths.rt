@@ -13,23 +13,14 @@ pub(crate) fn tenths_of(bits: u16) -> Tenths
     requires { is_mark bits ≡ false }
     ensures { result ≡ tenths_of bits }
 {
-    if bits < 0x8000 {
-        return Tenths {
-            tenths: bits as i16,
-        };
+    Tenths {
+        tenths: bits.cast_signed(),
     }
-    let below = (0xFFFF - bits) as i16;
-    Tenths { tenths: -1 - below }
 }
 
 pub(crate) fn bits_of(temperature: Tenths) -> u16
     requires { is_mark (bits_of temperature.tenths) ≡ false }
     ensures { result ≡ bits_of temperature.tenths }
 {
-    let tenths = temperature.tenths;
-    if 0 <= tenths {
-        return tenths as u16;
-    }
-    let below = (-1 - tenths) as u16;
-    0xFFFF - below
+    temperature.tenths.cast_unsigned()
 }

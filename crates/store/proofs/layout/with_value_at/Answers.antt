@@ -11,7 +11,7 @@ pub overflow_cast-length : goal.overflow_cast-length
 overflow_cast-length c =
     omega (
       arith,
-      ap length c.part-kept.ensures,
+      ap length c.first_bytes-kept.ensures,
       c.size_at-size.ensures,
       kept_length c.size_at-size.result c.args.value.now,
       size_most c.args.index,
@@ -34,7 +34,7 @@ pub returns-then-is_text : goal.returns-then-is_text
 returns-then-is_text c =
     let sized : length c.args.store.bytes ≡ store_size = search rules in
     c.fill.ensures
-    ∙ rw (c.put-begun.ensures, c.part-kept.ensures, c.size_at-size.ensures, c.place_at-place.ensures)
+    ∙ rw (c.put-begun.ensures, c.first_bytes-kept.ensures, c.size_at-size.ensures, c.place_at-place.ensures)
     (stored_text c.args.store c.args.index c.args.value.now sized (sym c.is_text.ensures ∙ c.if-is_text.true))
 
 pub fill-requires-2 : goal.fill-requires-2
