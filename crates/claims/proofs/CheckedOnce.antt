@@ -12,35 +12,36 @@ use borrow.Author.Tests.{leb-true, le-ltb, lt-ltb, eq-eqb}
 use lib.Dec.{leb, ltb}
 use lib.ListN.{length, drop, get_or}
 use Rattle.octets.proofs.Booleans.{both_true}
-use Rattle.framing.specs.Packet.{packet_refusals, packet_refusal, places_of, frame_of, parsed_as, refusal_number}
-use Rattle.framing.specs.Refusal.{Refusal, first_refusal}
+use Rattle.std.specs.Prelude.{Result, Ok, Err}
+use Rattle.refusals.specs.Refusals.{number_of}
+use Rattle.refusals.specs.declared.Refusal.{Refusal}
+use Rattle.refusals.proofs.Distinct.{numbers_distinct}
+use Rattle.framing.specs.Packet.{packet_refusals, packet_refusal, places_of, frame_of, parsed_as}
+use Rattle.framing.specs.Refusal.{Rule, first_refusal}
 use Rattle.framing.specs.Statements.{Concluded}
-use Rattle.framing.specs.declared.Parsed.{Parsed}
-use Rattle.framing.specs.declared.Parsed.TheVariants as parsed
 use Rattle.framing.specs.declared.Places.{Places}
 use Rattle.framing.proofs.Answers.{read_concludes}
 use Rattle.framing.proofs.Refusals.{passed_then}
 use Rattle.block.specs.Command.{Report}
 use Rattle.block.specs.Encoding.{every}
 use Rattle.model.specs.Step.{Call, call, request, request_refusals, step_refusal, Outcome, outcome_of, outcome_by, step}
-use Rattle.model.proofs.Refused.{refusal_number_lem}
+use Rattle.model.proofs.Refused.{refusal_answered}
 use Rattle.model.proofs.StepRefusals.{step_refusal_by, step_refused}
 use Rattle.tool.specs.Listing.{line_feed, refused_line, listing_as}
-use Rattle.tool.specs.Response.{ReadCall, read_call, received, frame_refusals, response_refusals, read_refusal, response_as, refused_number, any_response_refusal, reports_of}
-use Rattle.tool.specs.declared.response.Response.{Response}
+use Rattle.tool.specs.Response.{ReadCall, read_call, received, frame_refusals, response_refusals, read_refusal, response_as, any_response_refusal, reports_of}
 use Rattle.tool.proofs.Listings.{refused_as}
 use Rattle.tool.proofs.Refusals.{read_refusal_lem, any_refusal}
 use Rattle.claims.specs.OneCheck.{BothEnds, Ready, Answers, outcome_at, response_at, listing_at, RefusedAlike, TestedThere, OneCheck}
 use Rattle.claims.proofs.Numbers.{number_passes}
 
--- where the rest has numbers from 7 on, one up to 6 is of the first
+-- where the rest has numbers from 7 on, a refusal with one up to 6 is of the first
 first_decides :
-    (first rest : Option ℕ) {number : ℕ} → number ≤ 6 → ((other : ℕ) → rest ≡ some other → leb 7 other ≡ true)
-    → (or_else first rest ≡ some number) ↔ (first ≡ some number)
+    (first rest : Option Refusal) {refusal : Refusal} → number_of refusal ≤ 6
+    → ((other : Refusal) → rest ≡ some other → leb 7 (number_of other) ≡ true) → (or_else first rest ≡ some refusal) ↔ (first ≡ some refusal)
 unfolding or_else
 first_decides (some found) rest small later = (λ e. e, λ e. e)
-first_decides none rest {number} small later =
-    (λ e. absurd (omega (arith, leb-true 7 number (later number e))), λ e. let impossible : ◌≡◌ {A = ℕ} 0 1 = cc in absurd (omega arith))
+first_decides none rest {refusal} small later =
+    (λ e. absurd (omega (arith, leb-true 7 (number_of refusal) (later refusal e))), λ e. let impossible : ◌≡◌ {A = ℕ} 0 1 = cc in absurd (omega arith))
 
 -- a line with one digit has no other number
 line_number : (found number : ℕ) → number ≤ 6 → refused_line found ≡ refused_line number → found ≡ number
@@ -56,10 +57,12 @@ line_number found number small e =
     by_digits false k = absurd (omega (arith, ap length k))
 
 listing_number :
-    (refusal : Option ℕ) (found : List Report) {number : ℕ} → number ≤ 6 → (listing_as refusal found ≡ refused_line number) ↔ (refusal ≡ some number)
+    (refused : Option Refusal) (found : List Report) {refusal : Refusal} → number_of refusal ≤ 6
+    → (listing_as refused found ≡ refused_line (number_of refusal)) ↔ (refused ≡ some refusal)
 listing_number none found small =
     (λ e. absurd (omega (arith, ap (λ (l : List ℕ). get_or l 0 0) e)), λ e. let impossible : ◌≡◌ {A = ℕ} 0 1 = cc in absurd (omega arith))
-listing_number (some other) found small = (λ e. ap some (line_number other _ small e), λ e. ap (λ (o : Option ℕ). listing_as o found) e)
+listing_number (some other) found {refusal} small =
+    (λ e. ap some (numbers_distinct other refusal (line_number (number_of other) (number_of refusal) small e)), λ e. ap (λ (o : Option Refusal). listing_as o found) e)
 
 module _ (given : BothEnds) (ready : Ready given) (answers : Answers given) where
   called : Call
@@ -81,37 +84,34 @@ module _ (given : BothEnds) (ready : Ready given) (answers : Answers given) wher
   concluded : Concluded given.packet answers.parsed
   concluded = read_concludes given.packet answers.parsed answers.parses
 
-  read_refused : {number : ℕ} → answers.parsed ≡ parsed.Refused number → packet_refusal given.packet ≡ some number
-  read_refused k = concluded.refused k ∙ ap (λ (p : Parsed). some (refusal_number p)) k
+  packet_refused : {refusal : Refusal} → packet_refusal given.packet ≡ some refusal → answers.parsed ≡ Err refusal
+  packet_refused k = answers.parses ∙ ap (λ (o : Option Refusal). parsed_as o (places_of given.packet)) k
 
-  packet_refused : {number : ℕ} → packet_refusal given.packet ≡ some number → answers.parsed ≡ parsed.Refused number
-  packet_refused k = answers.parses ∙ ap (λ (o : Option ℕ). parsed_as o (places_of given.packet)) k
-
-  module _ (number : ℕ) (small : number ≤ 6) where
+  module _ (refusal : Refusal) (small : number_of refusal ≤ 6) where
     -- a refusal of the packet, else of its frame, is that of `read` where it is up to 6
     by_packet :
-        {A : Type 0} (rows : List (Refusal A)) (part : A) {refusal : Option ℕ} → every (λ (row : Refusal A). leb 7 row.number) rows ≡ true
-        → refusal ≡ or_else (packet_refusal given.packet) (first_refusal rows part) → (refusal ≡ some number) ↔ (answers.parsed ≡ parsed.Refused number)
+        {A : Type 0} (rows : List (Rule A)) (part : A) {refused : Option Refusal} → every (λ (row : Rule A). leb 7 (number_of row.refusal)) rows ≡ true
+        → refused ≡ or_else (packet_refusal given.packet) (first_refusal rows part) → (refused ≡ some refusal) ↔ (answers.parsed ≡ Err refusal)
     by_packet rows part later e =
         let decided = first_decides (packet_refusal given.packet) (first_refusal rows part) small (λ other k. number_passes (leb 7) rows part later k) in
-        (λ k. packet_refused (decided.0 (sym e ∙ k)), λ k. e ∙ decided.1 (read_refused k))
+        (λ k. packet_refused (decided.0 (sym e ∙ k)), λ k. e ∙ decided.1 (concluded.refused k))
 
-    refused_alike : RefusedAlike given answers number
+    refused_alike : RefusedAlike given answers refusal
     unfolding called asked request_refusals frame_refusals response_refusals every
     refused_alike =
         record {
           board = Iff.trans
-              (λ k. refusal_number_lem called (sym answers.steps.answer ∙ k), λ k. answers.steps.answer ∙ ap (λ (o : Outcome). o.answer) (step_refused called k))
+              (λ k. refusal_answered called (sym answers.steps.answer ∙ k), λ k. answers.steps.answer ∙ ap (λ (o : Outcome). o.answer) (step_refused called k))
               (by_packet request_refusals (request called) refl board_refusal);
           reader = Iff.trans
-              (λ k. refused_as (read_refusal asked) (places_of given.packet) answers.reads k ∙ ap (λ (r : Response). some (refused_number r)) k, λ k. answers.reads ∙ ap (λ (o : Option ℕ). response_as o (places_of given.packet)) k)
+              (λ k. refused_as (read_refusal asked) (places_of given.packet) answers.reads k, λ k. answers.reads ∙ ap (λ (o : Option Refusal). response_as o (places_of given.packet)) k)
               (by_packet frame_refusals (received asked) refl reader_refusal);
           listed = Iff.trans
               (listing_number (any_response_refusal given.packet) (Option.get_or (reports_of given.packet) []) small)
               (by_packet response_refusals (frame_of given.packet) refl (any_refusal given.packet));
         }
 
-  tested_at : {places : Places} → answers.parsed ≡ parsed.Frame places → TestedThere given answers
+  tested_at : {places : Places} → answers.parsed ≡ Ok places → TestedThere given answers
   unfolding called asked step
   tested_at {places} e =
       let stood = concluded.read e in
@@ -121,31 +121,31 @@ module _ (given : BothEnds) (ready : Ready given) (answers : Answers given) wher
         places = places;
         found = e;
         board = (λ i. outcome_of (answers.steps.board i) (answers.steps.answer i) (answers.steps.buffer i))
-            ∙ ap (λ (o : Option ℕ). outcome_by o (request called) given.buffer) (board_refusal ∙ passed_then _ right)
+            ∙ ap (λ (o : Option Refusal). outcome_by o (request called) given.buffer) (board_refusal ∙ passed_then _ right)
             ∙ ap (outcome_at given) here;
         reader = answers.reads
-            ∙ ap (λ (o : Option ℕ). response_as o (places_of given.packet)) (reader_refusal ∙ passed_then _ right)
+            ∙ ap (λ (o : Option Refusal). response_as o (places_of given.packet)) (reader_refusal ∙ passed_then _ right)
             ∙ ap (response_at given) here;
         listed =
-            ap (λ (o : Option ℕ). listing_as o (Option.get_or (reports_of given.packet) []))
+            ap (λ (o : Option Refusal). listing_as o (Option.get_or (reports_of given.packet) []))
             (any_refusal given.packet ∙ passed_then _ right)
             ∙ ap (listing_at given) here;
       }
 
   -- the numbers of `read`
-  packet_number : {number : ℕ} → answers.parsed ≡ parsed.Refused number → (2 ≤ number) × (number ≤ 6)
+  packet_number : {refusal : Refusal} → answers.parsed ≡ Err refusal → (2 ≤ number_of refusal) × (number_of refusal ≤ 6)
   unfolding packet_refusal packet_refusals every
-  packet_number {number} e =
-      let both = both_true (leb 2 number) (leb number 6) (number_passes (λ (n : ℕ). leb 2 n && leb n 6) packet_refusals given.packet refl (read_refused e)) in
-      (leb-true 2 number both.0, leb-true number 6 both.1)
+  packet_number {refusal} e =
+      let both = both_true (leb 2 (number_of refusal)) (leb (number_of refusal) 6) (number_passes (λ (n : ℕ). leb 2 n && leb n 6) packet_refusals given.packet refl (concluded.refused e)) in
+      (leb-true 2 (number_of refusal) both.0, leb-true (number_of refusal) 6 both.1)
 
-  tested_else : ((number : ℕ) → 2 ≤ number → number ≤ 6 → answers.parsed ≡ parsed.Refused number → ⊥) → TestedThere given answers
+  tested_else : ((refusal : Refusal) → 2 ≤ number_of refusal → number_of refusal ≤ 6 → answers.parsed ≡ Err refusal → ⊥) → TestedThere given answers
   tested_else other = by_answer answers.parsed refl
     where
-      by_answer : (p : Parsed) → answers.parsed ≡ p → TestedThere given answers
-      by_answer (parsed.Frame places) e = tested_at e
-      by_answer (parsed.Refused number) e = let bounds = packet_number e in absurd (other number bounds.0 bounds.1 e)
+      by_answer : (p : Result Places Refusal) → answers.parsed ≡ p → TestedThere given answers
+      by_answer (Ok places) e = tested_at e
+      by_answer (Err refusal) e = let bounds = packet_number e in absurd (other refusal bounds.0 bounds.1 e)
 
 pub one_check : OneCheck
 one_check given ready answers =
-    record { refused = λ number large small. refused_alike given ready answers number small; otherwise = tested_else given ready answers }
+    record { refused = λ refusal large small. refused_alike given ready answers refusal small; otherwise = tested_else given ready answers }

@@ -5,20 +5,19 @@ use mathlib.Core.Bool.{Bool, true, cond}
 use mathlib.Core.List.{List, ◌++◌}
 use mathlib.Core.Option.{Option, none, some}
 use mathlib.Core.Path.{◌≡◌, refl, sym, ap, subst, ◌∙◌}
-use borrow.Author.Tests.{le-leb, ltb-true}
-use lib.Dec.{ltb}
+use borrow.Author.Tests.{le-leb}
 use lib.ListN.{length, take, drop}
 use lib.Seq.{take_at, drop_at}
+use Rattle.std.specs.Prelude.{Some, None, Ok}
 use Rattle.octets.specs.Octets.{overwrite, fits}
-use Rattle.block.specs.Encoding.{every}
+use Rattle.refusals.specs.Refusals.{number_of, number_in}
+use Rattle.refusals.specs.declared.Refusal.{Refusal}
+use Rattle.refusals.proofs.Distinct.{numbers_above_zero}
 use Rattle.model.specs.Step.{Request}
 use Rattle.model.specs.declared.Answer.{Answer}
 use Rattle.model.specs.declared.Answer.TheVariants as answer
 use Rattle.tool.specs.Listing.{listing}
-use Rattle.tool.specs.Request.{WriteCall, write_refusals, write_refusal, written_as, Writes}
-use Rattle.tool.specs.Response.{refused_number}
-use Rattle.tool.specs.declared.listing.Listed.TheVariants as listed
-use Rattle.tool.specs.declared.request.Written.TheVariants.{Length}
+use Rattle.tool.specs.Request.{WriteCall, write_refusal, written_as, Writes}
 use Rattle.tool.proofs.Bounds.{listing_bounded}
 use Rattle.firmware.specs.Client.{written_reply, listed_reply, WritesInNumbers, ListsInNumbers}
 use Rattle.firmware.specs.Controller.{reply_of}
@@ -28,30 +27,27 @@ use Rattle.firmware.proofs.Exported.{exports_follow}
 use Rattle.claims.specs.Agreement.{ResponseRead}
 use Rattle.claims.specs.ExportedAgreement.{ExportedRequestsAgree, Shown, ResponseTold, ExportedResponsesAgree, ExportedExchangesAgree}
 use Rattle.claims.proofs.Exchanges.{exchanges_agree}
-use Rattle.claims.proofs.Numbers.{number_passes}
 use Rattle.claims.proofs.RequestsRead.{requests_agree}
 use Rattle.claims.proofs.ResponsesRead.{responses_agree}
 
 -- refusal 0 is a packet written
-written : (given : WriteCall) {reply : Reply} {after : List ℕ} → WritesInNumbers given reply after → reply.refusal ≡ 0 → Writes given (Length reply.length) after
-unfolding write_refusal write_refusals every
+written : (given : WriteCall) {reply : Reply} {after : List ℕ} → WritesInNumbers given reply after → reply.refusal ≡ 0 → Writes given (Ok reply.length) after
 written given {reply} {after} contract zero =
     record { answered = by_refusal (write_refusal given) refl contract.answered; held = contract.held }
   where
-    by_refusal : (o : Option ℕ) → write_refusal given ≡ o → reply ≡ written_reply (written_as o given) → Length reply.length ≡ written_as o given
-    by_refusal none e told = ap (λ (r : Reply). Length r.length) told
-    by_refusal (some number) e told =
-        let same : number ≡ 0 = sym (ap (λ (r : Reply). r.refusal) told) ∙ zero in
-        let above : ltb 0 0 ≡ true = number_passes (ltb 0) write_refusals given refl (e ∙ ap some same) in
-        absurd (omega (arith, ltb-true 0 0 above))
+    by_refusal : (o : Option Refusal) → write_refusal given ≡ o → reply ≡ written_reply (written_as o given) → Ok reply.length ≡ written_as o given
+    by_refusal none e told = ap (λ (r : Reply). Ok r.length) told
+    by_refusal (some refusal) e told =
+        let same : number_of refusal ≡ 0 = sym (ap (λ (r : Reply). r.refusal) told) ∙ zero in
+        absurd (omega (arith, numbers_above_zero refusal))
 
 pub exported_requests_agree : ExportedRequestsAgree
 exported_requests_agree given reply after contract zero board buffer =
-    requests_agree given (Length reply.length) after reply.length (written given contract zero) refl board buffer
+    requests_agree given (Ok reply.length) after reply.length (written given contract zero) refl board buffer
 
 -- a reply with a length is a response
 pub responded : (a : Answer) {reply : Reply} → reply ≡ reply_of a → 1 ≤ reply.length → a ≡ answer.Response reply.length
-responded (answer.Refused number) e long = absurd (omega (arith, ap (λ (r : Reply). r.length) e))
+responded (answer.Refused refusal) e long = absurd (omega (arith, ap (λ (r : Reply). r.length) e))
 responded answer.Silence e long = absurd (omega (arith, ap (λ (r : Reply). r.length) e))
 responded (answer.Response size) e long = ap (λ (r : Reply). answer.Response r.length) (sym e)
 
@@ -60,7 +56,7 @@ pub shown : (text buffer : List ℕ) {reply : Reply} {after : List ℕ} → List
 shown text buffer {reply} {after} contract short =
     let room : fits buffer 0 text ≡ true = le-leb (0 + length text) (length buffer) (omega arith) in
     let told : reply ≡ reply_with 0 (length text) =
-    contract.answered ∙ ap (λ (b : Bool). listed_reply (cond b (listed.Length (length text)) listed.NoRoom)) room in
+    contract.answered ∙ ap (λ (b : Bool). listed_reply (cond b (Some (length text)) None)) room in
     let held : after ≡ text ++ drop (0 + length text) buffer = contract.held ∙ ap (λ (b : Bool). cond b (overwrite buffer 0 text) buffer) room in
     let size : reply.length ≡ length text = ap (λ (r : Reply). r.length) told in
     let remaining : 0 + length text ≡ reply.length = omega arith in
@@ -73,7 +69,7 @@ shown text buffer {reply} {after} contract short =
 in_numbers : {r : Request} {packet : List ℕ} → ResponseRead r packet → ResponseTold r packet
 in_numbers {r} {packet} read =
     record {
-      accepted = λ of_discovery number e. e ∙ ap refused_number (read.accepted of_discovery);
+      accepted = λ of_discovery number e. e ∙ ap number_in (read.accepted of_discovery);
       listed = λ reply buffer after contract long.
           subst (λ (text : List ℕ). Shown text reply buffer after) read.listed
           (shown (listing packet) buffer contract (omega (arith, listing_bounded packet)));
@@ -89,5 +85,5 @@ pub exported_exchanges_agree : ExportedExchangesAgree
 exported_exchanges_agree given reply after contract zero board next buffer held back contract' long =
     let follows = exports_follow.packet _ next back held contract' in
     in_numbers
-    (exchanges_agree given (Length reply.length) after reply.length (written given contract zero) refl board buffer follows.result held back.length
+    (exchanges_agree given (Ok reply.length) after reply.length (written given contract zero) refl board buffer follows.result held back.length
     follows.contract (responded follows.result.answer follows.answer long)).1

@@ -1,19 +1,21 @@
 -- One check for the exported calls, from that for the functions under them: the proof of `ExportedOneCheck`.
-use Prim.Native.Nat.{ℕ, ◌≤◌}
+use Prim.Native.Nat.{ℕ, zero, suc, ◌≤◌}
 use native.Mathlib.Omega.{arith}
 use mathlib.Core.Logic.Iff
-use mathlib.Core.Logic.{◌↔◌, ◌⊎◌, inl, inr}
-use mathlib.Core.Path.{◌≡◌, refl, sym, ap, ◌∙◌}
+use mathlib.Core.Logic.{◌↔◌}
+use mathlib.Core.Path.{◌≡◌, refl, sym, ap, subst, ◌∙◌}
+use Rattle.std.specs.Prelude.{Result, Ok, Err}
+use Rattle.refusals.specs.Refusals.{number_of, number_in}
+use Rattle.refusals.specs.declared.Refusal.{Refusal}
+use Rattle.refusals.specs.declared.Refusal.TheVariants.{WrongLength, WrongMark, WrongChecksum, WrongHeader, WrongPasswordSize}
+use Rattle.refusals.proofs.Distinct.{numbers_distinct, numbers_above_zero}
 use Rattle.framing.specs.Packet.{parsed_of}
-use Rattle.framing.specs.declared.Parsed.{Parsed}
-use Rattle.framing.specs.declared.Parsed.TheVariants as parsed
+use Rattle.framing.specs.declared.Places.{Places}
 use Rattle.model.specs.Step.{call, Outcome}
 use Rattle.model.specs.declared.Answer.{Answer}
 use Rattle.model.specs.declared.Answer.TheVariants as answer
 use Rattle.tool.specs.Listing.{listing}
-use Rattle.tool.specs.Response.{read_call, response_of, refused_number}
-use Rattle.tool.specs.declared.response.Response.{Response}
-use Rattle.tool.specs.declared.response.Response.TheVariants as response
+use Rattle.tool.specs.Response.{read_call, response_of}
 use Rattle.tool.proofs.Bounds.{listing_bounded}
 use Rattle.firmware.specs.Controller.{reply_of}
 use Rattle.firmware.specs.Exported.{FromStep}
@@ -26,25 +28,30 @@ use Rattle.claims.specs.ExportedOneCheck.{ExportedAnswers, listed_text, Exported
 use Rattle.claims.proofs.CheckedOnce.{one_check}
 use Rattle.claims.proofs.ExportedCalls.{shown}
 
--- an answer and its number: a refusal has its own, any other answer 0
-numbered :
-    {A : Type 0} (refused : ℕ → A) (number : A → ℕ) → ((n : ℕ) → number (refused n) ≡ n)
-    → (a : A) → (a ≡ refused (number a)) ⊎ (number a ≡ 0) → {n : ℕ} → 2 ≤ n → (number a ≡ n) ↔ (a ≡ refused n)
-numbered refused number kept a (inl same) {n} large = (λ e. same ∙ ap refused e, λ e. ap number e ∙ kept n)
-numbered refused number kept a (inr zero) {n} large = (λ e. absurd (omega arith), λ e. ap number e ∙ kept n)
+-- the refusal of a number from 2 to 6
+of_number : (number : ℕ) → 2 ≤ number → number ≤ 6 → (refusal : Refusal) × (number_of refusal ≡ number)
+of_number zero large small = absurd (omega (arith, large))
+of_number (suc zero) large small = absurd (omega (arith, large))
+of_number (suc (suc zero)) large small = (WrongLength, refl)
+of_number (suc (suc (suc zero))) large small = (WrongMark, refl)
+of_number (suc (suc (suc (suc zero)))) large small = (WrongChecksum, refl)
+of_number (suc (suc (suc (suc (suc zero))))) large small = (WrongHeader, refl)
+of_number (suc (suc (suc (suc (suc (suc zero)))))) large small = (WrongPasswordSize, refl)
+of_number (suc (suc (suc (suc (suc (suc (suc more))))))) large small = absurd (omega (arith, small))
 
-by_parsed : (p : Parsed) → (p ≡ parsed.Refused (parts_of p).refusal) ⊎ ((parts_of p).refusal ≡ 0)
-by_parsed (parsed.Frame places) = inr refl
-by_parsed (parsed.Refused number) = inl refl
+-- an answer has the number of a refusal exactly when it is refused so
+result_number : {A : Type 0} (a : Result A Refusal) (refusal : Refusal) → (number_in a ≡ number_of refusal) ↔ (a ≡ Err refusal)
+result_number (Ok answer) refusal = (λ e. absurd (omega (arith, numbers_above_zero refusal)), λ e. ap number_in e)
+result_number (Err other) refusal = (λ e. ap Err (numbers_distinct other refusal e), λ e. ap number_in e)
 
-by_answer : (a : Answer) → (a ≡ answer.Refused (reply_of a).refusal) ⊎ ((reply_of a).refusal ≡ 0)
-by_answer (answer.Refused number) = inl refl
-by_answer answer.Silence = inr refl
-by_answer (answer.Response length) = inr refl
+answer_number : (a : Answer) (refusal : Refusal) → ((reply_of a).refusal ≡ number_of refusal) ↔ (a ≡ answer.Refused refusal)
+answer_number (answer.Refused other) refusal = (λ e. ap answer.Refused (numbers_distinct other refusal e), λ e. ap (λ (a : Answer). (reply_of a).refusal) e)
+answer_number answer.Silence refusal = (λ e. absurd (omega (arith, numbers_above_zero refusal)), λ e. ap (λ (a : Answer). (reply_of a).refusal) e)
+answer_number (answer.Response length) refusal = (λ e. absurd (omega (arith, numbers_above_zero refusal)), λ e. ap (λ (a : Answer). (reply_of a).refusal) e)
 
-by_response : (r : Response) → (r ≡ response.Refused (refused_number r)) ⊎ (refused_number r ≡ 0)
-by_response (response.Accepted block end) = inr refl
-by_response (response.Refused number) = inl refl
+parts_number : (p : Result Places Refusal) → (parts_of p).refusal ≡ number_in p
+parts_number (Ok places) = refl
+parts_number (Err refusal) = refl
 
 -- of two equal things one is a third exactly when the other is
 along : {A : Type 0} {left right other : A} → left ≡ right → (left ≡ other) ↔ (right ≡ other)
@@ -70,32 +77,38 @@ module _ (given : BothEnds) (ready : Ready given) (told : ExportedAnswers given)
   text_shown = (shown (listing given.packet) told.text told.lists (omega (arith, listing_bounded given.packet, told.long))).front
 
   -- the answers of the functions by their numbers
-  module _ {number : ℕ} (large : 2 ≤ number) where
-    parts_number : (told.parts.refusal ≡ number) ↔ (parsed_of given.packet ≡ parsed.Refused number)
-    parts_number = Iff.trans (along (ap (λ (p : Parts). p.refusal) told.parses)) (numbered parsed.Refused (λ (p : Parsed). (parts_of p).refusal) (λ n. refl) _ (by_parsed _) large)
+  module _ (refusal : Refusal) where
+    parts_refused : (told.parts.refusal ≡ number_of refusal) ↔ (parsed_of given.packet ≡ Err refusal)
+    parts_refused =
+        Iff.trans (along (ap (λ (p : Parts). p.refusal) told.parses ∙ parts_number (parsed_of given.packet))) (result_number (parsed_of given.packet) refusal)
 
-    reply_number : (told.reply.refusal ≡ number) ↔ (follows.result.answer ≡ answer.Refused number)
-    reply_number = Iff.trans (along (ap (λ (r : Reply). r.refusal) follows.answer)) (numbered answer.Refused (λ (a : Answer). (reply_of a).refusal) (λ n. refl) _ (by_answer _) large)
+    reply_refused : (told.reply.refusal ≡ number_of refusal) ↔ (follows.result.answer ≡ answer.Refused refusal)
+    reply_refused = Iff.trans (along (ap (λ (r : Reply). r.refusal) follows.answer)) (answer_number follows.result.answer refusal)
 
-    read_number : (told.number ≡ number) ↔ (response_of (read_call given.packet given.id given.password) ≡ response.Refused number)
-    read_number = Iff.trans (along told.reads) (numbered response.Refused refused_number (λ n. refl) _ (by_response _) large)
+    read_refused : (told.number ≡ number_of refusal) ↔ (response_of (read_call given.packet given.id given.password) ≡ Err refusal)
+    read_refused = Iff.trans (along told.reads) (result_number (response_of (read_call given.packet given.id given.password)) refusal)
 
-  refused_alike : (number : ℕ) → 2 ≤ number → number ≤ 6 → ExportedRefusedAlike given told number
+  refused_alike : (refusal : Refusal) → 2 ≤ number_of refusal → number_of refusal ≤ 6 → ExportedRefusedAlike given told (number_of refusal)
   unfolding answers
-  refused_alike number large small =
-      let alike = (one_check given ready answers).refused number large small in
-      let back = Iff.symm (parts_number large) in
+  refused_alike refusal large small =
+      let alike = (one_check given ready answers).refused refusal large small in
+      let back = Iff.symm (parts_refused refusal) in
       record {
-        board = Iff.trans (reply_number large) (Iff.trans alike.board back);
-        reader = Iff.trans (read_number large) (Iff.trans alike.reader back);
+        board = Iff.trans (reply_refused refusal) (Iff.trans alike.board back);
+        reader = Iff.trans (read_refused refusal) (Iff.trans alike.reader back);
         listed = Iff.trans (along text_shown) (Iff.trans alike.listed back);
       }
+
+  numbers_alike : (number : ℕ) → 2 ≤ number → number ≤ 6 → ExportedRefusedAlike given told number
+  numbers_alike number large small =
+      let found = of_number number large small in
+      subst (ExportedRefusedAlike given told) found.1 (refused_alike found.0 (omega (arith, found.1)) (omega (arith, found.1)))
 
   tested_there : ((number : ℕ) → 2 ≤ number → number ≤ 6 → told.parts.refusal ≡ number → ⊥) → ExportedTestedThere given told
   unfolding answers
   tested_there other =
-      let tested = (one_check given ready answers).otherwise (λ number large small e. other number large small ((parts_number large).1 e)) in
-      let parts : told.parts ≡ parts_of (parsed.Frame tested.places) = told.parses ∙ ap parts_of tested.found in
+      let tested = (one_check given ready answers).otherwise (λ refusal large small e. other (number_of refusal) large small ((parts_refused refusal).1 e)) in
+      let parts : told.parts ≡ parts_of (Ok tested.places) = told.parses ∙ ap parts_of tested.found in
       let here : tested.places ≡ told.parts.places = ap (λ (p : Parts). p.places) (sym parts) in
       let outcome = tested.board ∙ ap (outcome_at given) here in
       record {
@@ -103,9 +116,9 @@ module _ (given : BothEnds) (ready : Ready given) (told : ExportedAnswers given)
         board = follows.board ∙ ap (λ (o : Outcome). o.board) outcome;
         reply = follows.answer ∙ ap (λ (o : Outcome). reply_of o.answer) outcome;
         buffer = ap (λ (o : Outcome). o.buffer) outcome;
-        reader = told.reads ∙ ap refused_number (tested.reader ∙ ap (response_at given) here);
+        reader = told.reads ∙ ap number_in (tested.reader ∙ ap (response_at given) here);
         listed = text_shown ∙ tested.listed ∙ ap (listing_at given) here;
       }
 
 pub exported_one_check : ExportedOneCheck
-exported_one_check given ready told = record { refused = refused_alike given ready told; otherwise = tested_there given ready told }
+exported_one_check given ready told = record { refused = numbers_alike given ready told; otherwise = tested_there given ready told }

@@ -1,22 +1,19 @@
 -- Joining packets for the exported calls, from that for the functions under them: the proof of `ExportedPacketsJoin`.
 use Prim.Native.Nat.{ℕ, ◌≤◌}
 use native.Mathlib.Omega.{arith}
-use mathlib.Core.Bool.{true}
 use mathlib.Core.List.{List, [], ◌∷◌, ◌++◌, append_assoc}
 use mathlib.Core.Logic.{◌⊎◌, inl, inr}
 use mathlib.Core.Path.{◌≡◌, refl, sym, ap, subst, ◌∙◌}
-use borrow.Author.Tests.{ltb-true}
-use lib.Dec.{ltb}
 use lib.ListN.{take}
-use Rattle.framing.specs.Packet.{packet_refusals}
+use Rattle.refusals.specs.Refusals.{number_of}
+use Rattle.refusals.proofs.Distinct.{numbers_above_zero}
 use Rattle.framing.proofs.Writing.{length_packet}
 use Rattle.block.specs.Command.{Report}
-use Rattle.block.specs.Encoding.{every}
 use Rattle.model.specs.Refusals.{Silent, Responds}
-use Rattle.model.specs.Step.{Call, call, request, response, request_refusals, step_refusals, step_refusal, step}
+use Rattle.model.specs.Step.{Call, call, request, response, step}
 use Rattle.model.specs.declared.Answer.{Answer}
 use Rattle.model.specs.declared.Answer.TheVariants.{Refused, Silence, Response}
-use Rattle.model.proofs.Refused.{refusal_number_lem, none_refused, none_answered}
+use Rattle.model.proofs.Refused.{none_refused, none_answered}
 use Rattle.tool.specs.Listing.{report_line, report_lines, header}
 use Rattle.tool.specs.Request.{write_refusal, written_as}
 use Rattle.tool.specs.Response.{reports_of}
@@ -31,7 +28,6 @@ use Rattle.claims.specs.ExportedJoining.{PacketCalled, Reported, RepliesReported
 use Rattle.claims.specs.Joining.{PacketMade, Accepted, Told, AnswersJoin, WrittenJoins}
 use Rattle.claims.proofs.ExportedCalls.{responded, exported_responses_agree}
 use Rattle.claims.proofs.Joined.{told_once, answers_told, contracts_join}
-use Rattle.claims.proofs.Numbers.{number_passes}
 
 lines_join : (reports more : List Report) → report_lines (reports ++ more) ≡ report_lines reports ++ report_lines more
 unfolding report_lines
@@ -51,15 +47,13 @@ module _ {c : Call} (called : PacketCalled c) where
 
   -- refusal 0 is no refusal
   taken : called.reply.refusal ≡ 0 → Accepted follows.result.answer
-  unfolding step_refusal step_refusals request_refusals packet_refusals every
-  taken zero number e =
-      let same : number ≡ 0 = sym (ap (λ (r : Reply). r.refusal) (follows.answer ∙ ap reply_of e)) ∙ zero in
-      let above : ltb 0 number ≡ true = number_passes (ltb 0) step_refusals c refl (refusal_number_lem c (sym follows.contract.answer ∙ e)) in
-      omega (arith, ltb-true 0 number above)
+  taken zero refusal e =
+      let same : number_of refusal ≡ 0 = sym (ap (λ (r : Reply). r.refusal) (follows.answer ∙ ap reply_of e)) ∙ zero in
+      omega (arith, numbers_above_zero refusal)
 
   -- a response has a length
   long : {size : ℕ} → follows.result.answer ≡ Response size → 1 ≤ size
-  long {size} e = by_answer (none_answered c (none_refused c (λ number k. let impossible : ◌≡◌ {A = ℕ} 0 1 = cc (told, k) in omega arith)))
+  long {size} e = by_answer (none_answered c (none_refused c (λ refusal k. let impossible : ◌≡◌ {A = ℕ} 0 1 = cc (told, k) in omega arith)))
     where
       told : (step c).answer ≡ Response size
       told = sym follows.contract.answer ∙ e
@@ -87,7 +81,7 @@ module _ {c : Call} (called : PacketCalled c) where
         }
       where
         by_answer : (answer : Answer) → follows.result.answer ≡ answer → called.reply.length ≡ 0 → reports ≡ []
-        by_answer (Refused number) e none_long = absurd (taken zero number e)
+        by_answer (Refused refusal) e none_long = absurd (taken zero refusal e)
         by_answer Silence e none_long = told.silence e
         by_answer (Response size) e none_long = absurd (omega (arith, long e, length_as e))
 
@@ -127,6 +121,6 @@ exported_packets_join first second earlier later one two turn zero zero_too repo
     }
   where
     not_refused : (answer : Answer) → Accepted answer → (reply_of answer).refusal ≡ 0
-    not_refused (Refused number) accepted = absurd (accepted number refl)
+    not_refused (Refused refusal) accepted = absurd (accepted refusal refl)
     not_refused Silence accepted = refl
     not_refused (Response size) accepted = refl

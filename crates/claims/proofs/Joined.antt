@@ -11,6 +11,8 @@ use lib.Dec.{leb, eqb}
 use lib.ListN.{length, take, replicate, length-take, length-replicate}
 use Rattle.octets.specs.Octets.{same}
 use Rattle.octets.proofs.Booleans.{both_true}
+use Rattle.std.specs.Prelude.{Result, Ok}
+use Rattle.refusals.specs.declared.Refusal.{Refusal}
 use Rattle.framing.specs.Frame.{Frame, frame, packet_of, packet_length}
 use Rattle.framing.specs.Identity.{default_id, is_password}
 use Rattle.framing.specs.Packet.{frame_of}
@@ -29,14 +31,12 @@ use Rattle.model.specs.declared.Answer.TheVariants.{Refused, Silence}
 use Rattle.model.specs.declared.Board.{Board}
 use Rattle.model.proofs.Changed.{asked, no_discovery, commands_report, commands_leave}
 use Rattle.model.proofs.Joining.{runs_join}
-use Rattle.model.proofs.Refused.{refusal_number_lem, none_refused, answered_none, none_answered}
+use Rattle.model.proofs.Refused.{refusal_answered, none_refused, answered_none, none_answered}
 use Rattle.model.proofs.Soundness.{SoundParts, sound_parts, id_length}
 use Rattle.model.proofs.StepRefusals.{PassedStep, passed_step, passed_request}
 use Rattle.tool.specs.Request.{WriteCall, request_frame, write_refusals, write_refusal, written_as, buffer_as, Writes}
 use Rattle.tool.specs.Request as tool
 use Rattle.tool.specs.Statements.{Described}
-use Rattle.tool.specs.declared.request.Written.{Written}
-use Rattle.tool.specs.declared.request.Written.TheVariants.{Length}
 use Rattle.tool.proofs.CommandLists.{lists_described}
 use Rattle.claims.specs.Agreement.{RequestRead}
 use Rattle.claims.specs.Joining.{InTurn, request_with, response_with, BothFit, PacketJoins, PacketsJoin, AsksFor, call_for, JoinedCalls, PacketMade, Accepted, Told, AnswersTold, ContractsJoin}
@@ -140,11 +140,11 @@ module _
               le-ltb 256 _ (subst (λ (f : Frame). packet_length f ≤ 256) (sym frame_asked) fit.packet),
             )
 
-        length_told : {answer : Written} {written : List ℕ} → Writes given answer written → answer ≡ Length (length (packet_of (tool.request_of given)))
-        length_told writes = writes.answered ∙ ap (λ (o : Option ℕ). written_as o given) writer_takes
+        length_told : {answer : Result ℕ Refusal} {written : List ℕ} → Writes given answer written → answer ≡ Ok (length (packet_of (tool.request_of given)))
+        length_told writes = writes.answered ∙ ap (λ (o : Option Refusal). written_as o given) writer_takes
 
         packet_joins :
-            {answer : Written} {written : List ℕ} {size : ℕ} → Writes given answer written → answer ≡ Length size
+            {answer : Result ℕ Refusal} {written : List ℕ} {size : ℕ} → Writes given answer written → answer ≡ Ok size
             → (buffer : List ℕ) → 256 ≤ length buffer → PacketJoins first second (call first.board (take size written) buffer) (earlier ++ later)
         packet_joins {answer} {written} {size} writes told buffer room =
             let packet : List ℕ = take size written in
@@ -182,8 +182,8 @@ told {c} made =
       response = λ size e. (responses_agree c made.result made.after size made.contract e).reports;
     }
   where
-    no_refusal : (step c).answer ≡ Silence → (number : ℕ) → (step c).answer ≡ Refused number → ⊥
-    no_refusal e number k = let impossible : ◌≡◌ {A = ℕ} 0 1 = cc in omega arith
+    no_refusal : (step c).answer ≡ Silence → (refusal : Refusal) → (step c).answer ≡ Refused refusal → ⊥
+    no_refusal e refusal k = let impossible : ◌≡◌ {A = ℕ} 0 1 = cc in omega arith
 
     by_answer : (step c).answer ≡ Silence → Silent c ⊎ Responds c → reports_of (request c) ≡ []
     by_answer e (inl silent) = silent.reports
@@ -195,7 +195,7 @@ answers_told c made = (reports_of (request c), told made)
 -- the contract of an accepted call
 module _ {c : Call} (made : PacketMade c) (accepted : Accepted made.result.answer) where
   not_refused : step_refusal c ≡ none
-  not_refused = none_refused c (λ number e. accepted number (made.contract.answer ∙ e))
+  not_refused = none_refused c (λ refusal e. accepted refusal (made.contract.answer ∙ e))
 
   -- and no others
   pub told_once : (reports : List Report) → Told made reports → reports ≡ reports_of (request c)
@@ -224,11 +224,11 @@ contracts_join first second earlier later one two turn taken taken_too reports m
           let joins = packet_joins first second earlier later left_first accepted also fits given asks writes told_length buffer room in
           record {
             own = joins.own;
-            accepted = λ number e. never_both (answered_none _ joins.answered) (refusal_number_lem _ (sym both.contract.answer ∙ e));
+            accepted = λ refusal e. never_both (answered_none _ joins.answered) (refusal_answered _ (sym both.contract.answer ∙ e));
             board = both.contract.board ∙ joins.board ∙ sym two.contract.board;
             told = subst (Told both) (joins.reports ∙ sym same_reports) (told both);
           };
     }
   where
-    never_both : {o : Option ℕ} {number : ℕ} → o ≡ none → o ≡ some number → ⊥
+    never_both : {o : Option Refusal} {refusal : Refusal} → o ≡ none → o ≡ some refusal → ⊥
     never_both e k = let impossible : ◌≡◌ {A = ℕ} 0 1 = cc in omega arith

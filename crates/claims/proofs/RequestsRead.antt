@@ -13,6 +13,8 @@ use lib.Seq.{take_at}
 use Rattle.octets.specs.Octets.{same}
 use Rattle.octets.proofs.Booleans.{both_true}
 use Rattle.octets.proofs.Same.{same_self}
+use Rattle.std.specs.Prelude.{Result, Ok}
+use Rattle.refusals.specs.declared.Refusal.{Refusal}
 use Rattle.framing.specs.Frame.{Frame, packet_of, packet_length, is_frame}
 use Rattle.framing.specs.Identity.{default_id, is_password, all_alphanumeric}
 use Rattle.framing.specs.Packet.{packet_refusal, frame_of}
@@ -31,8 +33,6 @@ use Rattle.model.specs.Step.{Request, Call, call, request, is_discovery, decoded
 use Rattle.model.proofs.Refused.{first_none, packets_answered, authorized_answered}
 use Rattle.model.proofs.StepRefusals.{request_refusal_by, step_refusal_by}
 use Rattle.tool.specs.Request.{WriteCall, commands_of, request_of, write_refusals, write_refusal, written_as, buffer_as, Writes}
-use Rattle.tool.specs.declared.request.Written.{Written}
-use Rattle.tool.specs.declared.request.Written.TheVariants.{Length}
 use Rattle.claims.specs.Agreement.{RequestsAgree}
 use Rattle.claims.proofs.ReadsOnly.{reads_only}
 
@@ -62,17 +62,17 @@ pub record PacketSent (given : WriteCall) (packet : List ℕ) : Type 0 where
   pub taken : WriterTakes given
   pub packet_written : packet ≡ packet_of (request_of given)
 
-pub packet_sent : (given : WriteCall) {answer : Written} {written : List ℕ} {size : ℕ} → Writes given answer written → answer ≡ Length size → PacketSent given (take size written)
+pub packet_sent : (given : WriteCall) {answer : Result ℕ Refusal} {written : List ℕ} {size : ℕ} → Writes given answer written → answer ≡ Ok size → PacketSent given (take size written)
 packet_sent given {answer} {written} {size} writes e = by_refusal (write_refusal given) refl writes.answered writes.held
   where
-    by_refusal : (o : Option ℕ) → write_refusal given ≡ o → answer ≡ written_as o given → written ≡ buffer_as o given → PacketSent given (take size written)
+    by_refusal : (o : Option Refusal) → write_refusal given ≡ o → answer ≡ written_as o given → written ≡ buffer_as o given → PacketSent given (take size written)
     by_refusal none none_refused told held =
         let whole : size ≡ length (packet_of (request_of given)) = cc in
         record {
           taken = writer_takes given none_refused;
           packet_written = (λ i. take (whole i) (held i)) ∙ take_at (packet_of (request_of given)) _ (length (packet_of (request_of given))) refl;
         }
-    by_refusal (some number) refused told held = let impossible : ◌≡◌ {A = ℕ} 0 1 = cc in absurd (omega arith)
+    by_refusal (some refusal) refused told held = let impossible : ◌≡◌ {A = ℕ} 0 1 = cc in absurd (omega arith)
 
 -- and is read as the frame that was written
 pub frame_read : (given : WriteCall) {packet : List ℕ} → PacketSent given packet → (packet_refusal packet ≡ none) × (frame_of packet ≡ request_of given)

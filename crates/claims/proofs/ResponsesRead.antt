@@ -12,6 +12,7 @@ use lib.ListN.{length, take}
 use Rattle.octets.specs.Octets.{same}
 use Rattle.octets.proofs.Booleans.{both_true}
 use Rattle.octets.proofs.Same.{same_self, same_equal}
+use Rattle.refusals.specs.declared.Refusal.{Refusal}
 use Rattle.framing.specs.Frame.{Frame, packet_of, packet_length, is_frame}
 use Rattle.framing.specs.Identity.{default_id, all_alphanumeric, is_password}
 use Rattle.framing.specs.Packet.{packet_refusal, places_of, frame_of}
@@ -56,9 +57,9 @@ responded c {result} {after} {size} steps e = by_refusal (step_refusal c) refl
         let whole : size ≡ responds.size = cc (told, responds.answer) in
         record { passed = passed; packet_sent = (λ i. take (whole i) (steps.buffer i)) ∙ responds.sent }
 
-    by_refusal : (o : Option ℕ) → step_refusal c ≡ o → Responded c (take size after)
+    by_refusal : (o : Option Refusal) → step_refusal c ≡ o → Responded c (take size after)
     by_refusal none none_refused = by_answer (passed_step c none_refused) ((packets_answered c).accepted.1 (first_none step_refusals c none_refused))
-    by_refusal (some number) refused =
+    by_refusal (some refusal) refused =
         let impossible : ◌≡◌ {A = ℕ} 0 1 = cc (told, ap (λ (o : Outcome). o.answer) (step_refused c refused)) in absurd (omega arith)
 
 -- the ID asked by is the default one, or that of the board
@@ -113,7 +114,7 @@ responses_agree c result after size steps e =
     (ap (λ (f : Frame). other_password r.frame.password f.password) found ∙ ap not (same_self r.frame.password))
     formed in
     record {
-      accepted = λ of_discovery. ap (λ (o : Option ℕ). response_as o (places_of packet)) (accepted of_discovery);
+      accepted = λ of_discovery. ap (λ (o : Option Refusal). response_as o (places_of packet)) (accepted of_discovery);
       reports = told;
       listed = λ i. listing_as (any_accepted packet passes formed i) (get_or (told i) []);
     }

@@ -1,7 +1,8 @@
 -- Writers and readers agree: the tool's writer and the board's reader on every command, the board's writer and the tool's reader on
 -- every report. All that is known of the tool's `write` and the board's `packet` are their contracts.
-use Rattle.std.specs.Prelude.{ℕ, ◌≤◌, true, List, ◌++◌, ◌⊎◌, ◌≡◌, length, take}
+use Rattle.std.specs.Prelude.{ℕ, ◌≤◌, true, List, Result, Ok, ◌++◌, ◌⊎◌, ◌≡◌, length, take}
 use Rattle.std.proofs.Math.Option.{none, some}
+use Rattle.refusals.specs.declared.Refusal.{Refusal}
 use Rattle.framing.specs.Frame.{packet_length}
 use Rattle.framing.specs.Identity.{default_id, is_password}
 use Rattle.framing.specs.Packet.{packet_refusal, places_of}
@@ -18,8 +19,6 @@ use Rattle.tool.specs.Request.{WriteCall, commands_of, Writes}
 use Rattle.tool.specs.Request as tool
 use Rattle.tool.specs.Response.{read_call, response_of, accepted_at}
 use Rattle.tool.specs.Response as read
-use Rattle.tool.specs.declared.request.Written.{Written}
-use Rattle.tool.specs.declared.request.Written.TheVariants.{Length}
 
 -- the board reads in a packet what the tool was given to write
 pub record RequestRead (given : WriteCall) (c : Call) : Type 0 where
@@ -41,7 +40,7 @@ pub record RequestRead (given : WriteCall) (c : Call) : Type 0 where
 -- whatever the tool writes without a refusal, for any board
 abbrev pub RequestsAgree : Type 0
 RequestsAgree =
-    (given : WriteCall) (answer : Written) (written : List ℕ) (size : ℕ) → Writes given answer written → answer ≡ Length size
+    (given : WriteCall) (answer : Result ℕ Refusal) (written : List ℕ) (size : ℕ) → Writes given answer written → answer ≡ Ok size
     → (board : Board) (buffer : List ℕ) → RequestRead given (call board (take size written) buffer)
 
 -- the tool, asking with the ID and the password of a request, accepts a packet and reads in it what the board reports to the request
@@ -63,7 +62,7 @@ ResponsesAgree =
 -- there and back: the tool accepts a response to what it wrote, and reads what the board reports to what it was given
 abbrev pub ExchangesAgree : Type 0
 ExchangesAgree =
-    (given : WriteCall) (answer : Written) (written : List ℕ) (size : ℕ) → Writes given answer written → answer ≡ Length size
+    (given : WriteCall) (answer : Result ℕ Refusal) (written : List ℕ) (size : ℕ) → Writes given answer written → answer ≡ Ok size
     → (board : Board) (buffer : List ℕ) (result : Stepped) (after : List ℕ) (back : ℕ)
     → Steps (call board (take size written) buffer) result after → result.answer ≡ Response back
     → (response_of (read_call (take back after) given.id given.password) ≡ accepted_at (places_of (take back after)))

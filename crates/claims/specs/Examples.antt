@@ -1,6 +1,7 @@
 -- What an example asks of the definitions, with what it says must come of it.
-use Rattle.std.specs.Prelude.{ℕ, ◌-◌, List, [], ◌∷◌, ◌++◌, length, replicate}
+use Rattle.std.specs.Prelude.{ℕ, ◌-◌, ⊤, Result, List, [], ◌∷◌, ◌++◌, length, replicate}
 use Rattle.std.proofs.Math.Option.{Option}
+use Rattle.refusals.specs.declared.Refusal.{Refusal}
 use Rattle.block.specs.Command.{Command, Report}
 use Rattle.block.specs.Request.{commands}
 use Rattle.block.specs.Response.{reports}
@@ -10,10 +11,8 @@ use Rattle.model.specs.Record.{verdict_of, SetUp, set_up_board}
 use Rattle.model.specs.Step.{call, step}
 use Rattle.model.specs.declared.Answer.{Answer}
 use Rattle.model.specs.declared.Board.{Board}
-use Rattle.model.specs.declared.Verdict.{Verdict}
 use Rattle.tool.specs.Listing.{listing}
 use Rattle.tool.specs.Request.{WriteCall, write_refusal, written_as, buffer_as}
-use Rattle.tool.specs.declared.request.Written.{Written}
 
 -- a lent buffer of 256 bytes before a call, and with these bytes in front
 abbrev pub untouched : List ℕ
@@ -28,7 +27,7 @@ filled bytes = bytes ++ replicate (256 - length bytes) 0xAA
 --   holds: the value that a parameter holds at that moment
 pub data Event : Type 0 where
   sent : List ℕ → Answer → List ℕ → Event
-  measured : ℕ → List ℕ → Verdict → Event
+  measured : ℕ → List ℕ → Result ⊤ Refusal → Event
   holds : ℕ → List ℕ → Event
 
 -- a line of the table
@@ -38,7 +37,7 @@ pub data Event : Type 0 where
 --   lists: a response; the text of its listing
 --   runs: what a board is set up with; what happens to it, in order
 pub data Line : Type 0 where
-  writes : WriteCall → Written → List ℕ → Line
+  writes : WriteCall → Result ℕ Refusal → List ℕ → Line
   asks : ℕ → List ℕ → Option (List Command) → Line
   tells : List ℕ → Option (List Report) → Line
   lists : List ℕ → List ℕ → Line

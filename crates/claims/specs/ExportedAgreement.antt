@@ -1,13 +1,14 @@
 -- The agreement of writers and readers for the exported calls: what `udgornwy_write` wrote, a board reads; what `udgornwy_packet` responds,
 -- `udgornwy_read` accepts and `udgornwy_list` lists. All that is known of a call is its contract.
 use Rattle.std.specs.Prelude.{ℕ, ◌≤◌, true, List, ◌++◌, ◌≡◌, length, take, drop}
+use Rattle.refusals.specs.Refusals.{number_in}
 use Rattle.framing.specs.Identity.{is_password}
 use Rattle.model.specs.Step.{Request, Call, call, request_of, request, is_discovery, reports_of}
 use Rattle.model.specs.declared.Board.{Board}
 use Rattle.tool.specs.Listing.{report_lines, header, listing}
 use Rattle.tool.specs.Request.{WriteCall}
 use Rattle.tool.specs.Request as tool
-use Rattle.tool.specs.Response.{read_call, response_of, refused_number}
+use Rattle.tool.specs.Response.{read_call, response_of}
 use Rattle.firmware.specs.Client.{WritesInNumbers, ListsInNumbers}
 use Rattle.firmware.specs.Controller.{Replies}
 use Rattle.firmware.specs.declared.Reply.{Reply}
@@ -30,7 +31,7 @@ pub record ResponseTold (r : Request) (packet : List ℕ) : Type 0 where
   -- a discovery (search) alone may bear a password that the tool refuses to expect
   pub accepted :
       (is_discovery r ≡ true → is_password r.frame.password ≡ true)
-      → (number : ℕ) → number ≡ refused_number (response_of (read_call packet r.frame.id r.frame.password)) → number ≡ 0
+      → (number : ℕ) → number ≡ number_in (response_of (read_call packet r.frame.id r.frame.password)) → number ≡ 0
   -- in a buffer as long as the longest listing
   pub listed :
       (reply : Reply) (buffer after : List ℕ) → ListsInNumbers (listing packet) buffer reply after → 1753 ≤ length buffer

@@ -1,11 +1,12 @@
 -- One check for both ends, for the exported calls: `udgornwy_parse`, `udgornwy_packet`, `udgornwy_read` and `udgornwy_list`. All that is known
 -- of a call is its contract.
 use Rattle.std.specs.Prelude.{ℕ, ◌≤◌, List, ◌↔◌, ◌≡◌, length, take}
+use Rattle.refusals.specs.Refusals.{number_in}
 use Rattle.framing.specs.Packet.{parsed_of}
 use Rattle.model.specs.Step.{call}
 use Rattle.model.specs.declared.Board.{Board}
 use Rattle.tool.specs.Listing.{refused_line, listing}
-use Rattle.tool.specs.Response.{read_call, response_of, refused_number}
+use Rattle.tool.specs.Response.{read_call, response_of}
 use Rattle.firmware.specs.Client.{ListsInNumbers}
 use Rattle.firmware.specs.Controller.{reply_of, Replies}
 use Rattle.firmware.specs.Packet.{parts_of}
@@ -23,7 +24,7 @@ pub record ExportedAnswers (given : BothEnds) : Type 0 where
   pub after : List ℕ
   pub replies : Replies (call given.board given.packet given.buffer) next reply after
   pub number : ℕ
-  pub reads : number ≡ refused_number (response_of (read_call given.packet given.id given.password))
+  pub reads : number ≡ number_in (response_of (read_call given.packet given.id given.password))
   pub listed : Reply
   pub text : List ℕ
   pub shown : List ℕ
@@ -46,7 +47,7 @@ pub record ExportedTestedThere (given : BothEnds) (answers : ExportedAnswers giv
   pub board : answers.next ≡ (outcome_at given answers.parts.places).board
   pub reply : answers.reply ≡ reply_of (outcome_at given answers.parts.places).answer
   pub buffer : answers.after ≡ (outcome_at given answers.parts.places).buffer
-  pub reader : answers.number ≡ refused_number (response_at given answers.parts.places)
+  pub reader : answers.number ≡ number_in (response_at given answers.parts.places)
   pub listed : listed_text answers ≡ listing_at given answers.parts.places
 
 pub record ExportedCheckedOnce (given : BothEnds) (answers : ExportedAnswers given) : Type 0 where

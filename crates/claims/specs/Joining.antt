@@ -1,7 +1,8 @@
 -- Joining packets: two packets for a board, one after the other, and the tool's packet of both command lists in their place. What the packets
 -- ask is said by block's `commands`, and what the board told by the tool's reading of it.
-use Rattle.std.specs.Prelude.{ℕ, ◌≤◌, true, List, [], ◌++◌, ◌⊎◌, ◌≡◌, length, take}
+use Rattle.std.specs.Prelude.{ℕ, ◌≤◌, true, List, [], Result, Ok, ◌++◌, ◌⊎◌, ◌≡◌, length, take}
 use Rattle.std.proofs.Math.Option.{none, some}
+use Rattle.refusals.specs.declared.Refusal.{Refusal}
 use Rattle.framing.specs.Frame.{Frame, frame, packet_of, packet_length}
 use Rattle.framing.specs.Packet.{frame_of}
 use Rattle.block.specs.Command.{Command, Report}
@@ -17,8 +18,6 @@ use Rattle.model.specs.declared.Stepped.{Stepped}
 use Rattle.tool.specs.CommandList.{describes_list, functions_of, numbers_of, lengths_of, values_of}
 use Rattle.tool.specs.Request.{WriteCall, write_call, commands_of, request_frame, Writes}
 use Rattle.tool.specs.Response as read
-use Rattle.tool.specs.declared.request.Written.{Written}
-use Rattle.tool.specs.declared.request.Written.TheVariants.{Length}
 
 -- a packet that bears the board's own ID and its password, and asks for these commands; of an accepted one the ID gives the password (8)
 pub record Own (c : Call) (commands : List Command) : Type 0 where
@@ -87,7 +86,7 @@ pub record PacketMade (c : Call) : Type 0 where
   pub contract : Steps c result after
 
 abbrev pub Accepted : Answer → Type 0
-Accepted answer = (number : ℕ) → answer ≡ Refused number → ⊥
+Accepted answer = (refusal : Refusal) → answer ≡ Refused refusal → ⊥
 
 -- what the tool reads in an answer: the reports of a response, none in silence
 pub record Told {c : Call} (made : PacketMade c) (reports : List Report) : Type 0 where
@@ -105,9 +104,9 @@ pub record AnswersJoin {second joined : Call} (two : PacketMade second) (both : 
   pub told : Told both reports
 
 -- the writer takes the joined commands, and what it wrote stands in the place of both packets
-pub record WrittenJoins {second : Call} (board : Board) (two : PacketMade second) (commands : List Command) (reports : List Report) (answer : Written) (written : List ℕ) : Type 0 where
+pub record WrittenJoins {second : Call} (board : Board) (two : PacketMade second) (commands : List Command) (reports : List Report) (answer : Result ℕ Refusal) (written : List ℕ) : Type 0 where
   pub size : ℕ
-  pub taken : answer ≡ Length size
+  pub taken : answer ≡ Ok size
   pub joins :
       (buffer : List ℕ) → 256 ≤ length buffer → (both : PacketMade (call board (take size written) buffer)) → AnswersJoin two both commands reports
 
@@ -116,5 +115,5 @@ ContractsJoin =
     (first second : Call) (earlier later : List Command) (one : PacketMade first) (two : PacketMade second)
     → InTurn first second earlier later one.result.board → Accepted one.result.answer → Accepted two.result.answer
     → (reports more : List Report) → Told one reports → Told two more → BothFit first.board (earlier ++ later) (reports ++ more)
-    → (given : WriteCall) → AsksFor first.board (earlier ++ later) given → (answer : Written) (written : List ℕ) → Writes given answer written
+    → (given : WriteCall) → AsksFor first.board (earlier ++ later) given → (answer : Result ℕ Refusal) (written : List ℕ) → Writes given answer written
     → WrittenJoins first.board two (earlier ++ later) (reports ++ more) answer written

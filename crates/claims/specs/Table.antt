@@ -1,12 +1,11 @@
 -- The worked examples E1 to E12 of document 01, and two more, as one table.
-use Rattle.std.specs.Prelude.{ℕ, List, [], ◌∷◌, ◌++◌, map, ◌≡◌, take}
+use Rattle.std.specs.Prelude.{ℕ, Ok, List, [], ◌∷◌, ◌++◌, map, ◌≡◌, take}
 use Rattle.std.proofs.Math.Option.{some}
+use Rattle.refusals.specs.declared.Refusal.TheVariants.{WrongLength, OtherPassword, MalformedBlock}
 use Rattle.block.specs.Command.{command_of, held, unknown}
 use Rattle.model.specs.Record.{SetUp, set_up}
 use Rattle.model.specs.declared.Answer.TheVariants.{Refused, Silence, Response}
-use Rattle.model.specs.declared.Verdict.TheVariants.{Accepted}
 use Rattle.tool.specs.Request.{write_call}
-use Rattle.tool.specs.declared.request.Written.TheVariants.{Length}
 use Rattle.claims.specs.Examples.{untouched, filled, sent, measured, holds, Line, writes, asks, tells, lists, runs, computed}
 
 abbrev pub zero_id : List ℕ
@@ -86,7 +85,7 @@ found =
 unfoldable pub examples : List Line
 examples =
     -- E1: the read of 0001 and 0002, zero ID, password 1111: 30 bytes, sum DE 00
-    writes (write_call untouched zero_id ones (0x01 ∷ 0x01 ∷ []) (0x0001 ∷ 0x0002 ∷ []) (0 ∷ 0 ∷ []) []) (Length 30) (filled read) ∷
+    writes (write_call untouched zero_id ones (0x01 ∷ 0x01 ∷ []) (0x0001 ∷ 0x0002 ∷ []) (0 ∷ 0 ∷ []) []) (Ok 30) (filled read) ∷
     -- E2: its response from a board with 0001 at 0 and 0002 at 3: 32 bytes, sum E6 00; and the listing of that
     runs board
     (sent (packet (0x02 ∷ 0x02 ∷ 0x03 ∷ 0xE1 ∷ 0x00 ∷ [])) Silence untouched
@@ -117,11 +116,11 @@ examples =
     tells (0xFF ∷ 0x01 ∷ 0xFD ∷ 0x01 ∷ 0x04 ∷ 0x05 ∷ 0xFF ∷ 0x02 ∷ 0xFE ∷ 0x02 ∷ 0x40 ∷ 0x51 ∷ 0x68 ∷ [])
     (some (unknown 0x01 0x01 ∷ held 0x01 0x04 (0x05 ∷ []) ∷ held 0x02 0x40 (0x51 ∷ 0x68 ∷ []) ∷ [])) ∷
     -- E6: zero ID, empty password, FUNC 01, no data: 24 bytes, sum 13 00. Silence on the board with no password, refusal 8 if it has one. 23 bytes: refusal 2
-    writes (write_call untouched zero_id [] [] [] [] []) (Length 24) (filled shortest) ∷
+    writes (write_call untouched zero_id [] [] [] [] []) (Ok 24) (filled shortest) ∷
     runs (set_up zero_id [] 1 2)
     (sent shortest Silence untouched
-    ∷ sent (take 23 shortest) (Refused 2) untouched ∷ []) ∷
-    runs board (sent shortest (Refused 8) untouched ∷ []) ∷
+    ∷ sent (take 23 shortest) (Refused WrongLength) untouched ∷ []) ∷
+    runs board (sent shortest (Refused OtherPassword) untouched ∷ []) ∷
     -- E7: 0063 raised from 0 gives 70, from 70 gives 75, from 365 stays; lowered from 70 gives 0
     runs board
     (holds 0x0063 (0x00 ∷ 0x00 ∷ [])
@@ -155,13 +154,13 @@ examples =
     -- E11: FUNC 03, 01 01 FE 02 63 46: refusal 10; 0001 keeps its value
     runs board
     (holds 0x0001 (0x00 ∷ [])
-    ∷ sent (packet (0x03 ∷ 0x01 ∷ 0x01 ∷ 0xFE ∷ 0x02 ∷ 0x63 ∷ 0x46 ∷ 0x88 ∷ 0x02 ∷ [])) (Refused 10) untouched
+    ∷ sent (packet (0x03 ∷ 0x01 ∷ 0x01 ∷ 0xFE ∷ 0x02 ∷ 0x63 ∷ 0x46 ∷ 0x88 ∷ 0x02 ∷ [])) (Refused MalformedBlock) untouched
     ∷ holds 0x0001 (0x00 ∷ []) ∷ []) ∷
     -- E12: client mode, search, data 7C 01 B9; the search bears the password 2222 and gets it back
     runs (set_up own_id ones 1 2) (sent discovery (Response 52) (filled found) ∷ []) ∷
     -- A measurement, -5.0 degrees, that a packet then reads: without it a definition that drops its measurements would pass. Its listing has letters among its digits.
     runs board
-    (measured 0x001E (0xCE ∷ 0xFF ∷ []) Accepted
+    (measured 0x001E (0xCE ∷ 0xFF ∷ []) (Ok tt)
     ∷ sent (packet (0x01 ∷ 0x1E ∷ 0xF9 ∷ 0x00 ∷ [])) (Response 33) (filled temperature) ∷ []) ∷
     lists temperature
     (0x6E ∷ 0x75 ∷ 0x6D ∷ 0x62 ∷ 0x65 ∷ 0x72 ∷ 0x2C ∷ 0x76 ∷ 0x61 ∷ 0x6C ∷ 0x75 ∷ 0x65 ∷ 0x0A  -- number,value

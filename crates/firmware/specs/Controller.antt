@@ -1,7 +1,7 @@
 -- The board's answers in numbers, for callers in other languages.
-use Rattle.std.specs.Prelude.{ℕ, List, ◌≡◌, Result}
+use Rattle.std.specs.Prelude.{ℕ, ⊤, List, Result, ◌≡◌}
 use Rattle.refusals.specs.Refusals.{number_of, number_in}
-use Rattle.refusals.specs.declared.Refusal.{Refusal as RefusalOf}
+use Rattle.refusals.specs.declared.Refusal.{Refusal}
 use Rattle.model.specs.Measurement.{MeasureCall, measure_refusal, measured_board}
 use Rattle.model.specs.Record.{SetUp, set_up_board, set_up_refusal, verdict_of}
 use Rattle.model.specs.Step.{Call, step}
@@ -25,7 +25,7 @@ pub record Replies (c : Call) (next : Board) (reply : Reply) (after : List ℕ) 
   pub buffer : after ≡ (step c).buffer
 
 -- refusal 0: not refused
-abbrev pub result_of : Board → Result (Unit {0}) RefusalOf → CallResult
+abbrev pub result_of : Board → Result ⊤ Refusal → CallResult
 result_of board verdict = record { board = board; refusal = number_in verdict }
 
 abbrev pub set_up_result : SetUp → CallResult

@@ -11,7 +11,8 @@ ghost use Rattle.model.specs.Record.{set_up};
 ghost use Rattle.model.specs.Step.{call};
 ghost use Rattle.tool.specs.Listing.{listing};
 ghost use Rattle.tool.specs.Request.{write_call};
-ghost use Rattle.tool.specs.Response.{refused_number, response_of, read_call};
+ghost use Rattle.refusals.specs.Refusals.{number_in};
+ghost use Rattle.tool.specs.Response.{response_of, read_call};
 
 use firmware::Reply;
 use firmware::controller::CallResult;
@@ -69,7 +70,7 @@ pub extern "C" fn udgornwy_write(
 // Judges a response to a request that asked for `id` and sent `password`: the number of the refusal, 0 where there is none.
 #[unsafe(no_mangle)]
 pub extern "C" fn udgornwy_read(packet: &[u8], id: &[u8], password: &[u8]) -> u16
-    ensures { result ≡ refused_number (response_of (read_call packet.now id.now password.now)) }
+    ensures { result ≡ number_in (response_of (read_call packet.now id.now password.now)) }
 {
     firmware::client::udgornwy_read(packet, id, password)
 }
