@@ -6,7 +6,7 @@ use mathlib.Core.Bool.{Bool, true, false}
 use mathlib.Core.List.{List, [], ◌++◌, append-nil}
 use mathlib.Core.Option.{Option, none, some}
 use mathlib.Core.Path.{◌≡◌, sym, ap, ◌∙◌}
-use borrow.Author.Tests.{leb-false, leb-true, lt-ltb, le-ltb}
+use borrow.Author.Tests.{leb-true, le-ltb}
 use lib.ListN.{length, length-append, take-append-drop}
 use Rattle.octets.specs.Octets.{overwrite, Overwrites, fits}
 use Rattle.octets.proofs.Overwriting.{overwrites, overwrite_after, length_overwrite}
@@ -24,13 +24,8 @@ pub written_as :
     → Writes refused bytes buffer (Ok size) after
 written_as e sized held = record { answered = rw e (ap Ok sized); held = rw e held }
 
--- bytes that do not fit, and bytes that do
+-- bytes that fit
 module _ {buffer bytes after : List ℕ} {answer : Bool} (done : Overwrites buffer 0 bytes answer after) where
-  pub not_put : answer ≡ false → (too_short buffer bytes ≡ true) × (after ≡ buffer)
-  not_put h =
-      let lacking : fits buffer 0 bytes ≡ false = sym done.answered ∙ h in
-      (lt-ltb (length buffer) (length bytes) (omega (arith, leb-false (0 + length bytes) (length buffer) lacking)), done.held ∙ rw lacking)
-
   pub put : answer ≡ true → (too_short buffer bytes ≡ false) × (after ≡ overwrite buffer 0 bytes)
   put h =
       let inside : fits buffer 0 bytes ≡ true = sym done.answered ∙ h in

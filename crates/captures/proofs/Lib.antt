@@ -4,7 +4,7 @@ pub mod Readings
 pub mod Records
 pub mod Lists
 pub mod Buffers
-pub mod Calls
+pub mod Parts
 pub mod ReadsWritten
 pub mod Appending
 pub mod Pieces

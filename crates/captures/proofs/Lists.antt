@@ -11,7 +11,7 @@ use lib.ListN.{length, take, drop, get_or, drop_of_length-le, length-append, len
 use lib.Seq.{drop-cons, length-take-le}
 use Rattle.octets.specs.Octets.{between, sum}
 use Rattle.octets.proofs.Booleans.{both_true, neither}
-use Rattle.captures.specs.Form.{packet_at, ids_at, board_limit, boards_of, wrong_count, Record, record_of, record_bytes, records_bytes, head_bytes}
+use Rattle.captures.specs.Form.{packet_at, ids_at, board_limit, boards_of, wrong_count, Record, record_of, record_bytes, records_bytes, head_bytes, capture_bytes}
 use Rattle.captures.specs.Writing.{wrong_ids, record_list, describes_records, SideBySide, record_in_range, every_in_range}
 use Rattle.captures.specs.declared.Version.{Version}
 use Rattle.captures.proofs.Fields.{length_bytes}
@@ -113,6 +113,21 @@ pub length_list :
     → length (records_bytes version (record_list indexes directions counters lengths packets)) ≡ packet_at version * length indexes + length packets
 length_list version indexes directions counters lengths packets counts adds =
     omega (arith, adds, length_described version indexes directions counters lengths packets counts (omega (arith, adds)))
+
+-- how long the bytes of a capture are
+pub length_capture :
+    (version : Version) (ids indexes directions counters lengths packets : List ℕ) → describes_records indexes directions counters lengths packets ≡ true
+    → length (capture_bytes version ids (record_list indexes directions counters lengths packets))
+    ≡ ids_at version + length ids + (packet_at version * length indexes + length packets)
+length_capture version ids indexes directions counters lengths packets h =
+    let told = described indexes directions counters lengths packets h in
+    let records = record_list indexes directions counters lengths packets in
+    omega (
+      arith,
+      length-append (head_bytes version ids) (records_bytes version records),
+      length_head version ids,
+      length_list version indexes directions counters lengths packets told.0 told.1,
+    )
 
 -- right IDs are those of at most as many boards as the version has
 pub few_boards : (version : Version) (ids : List ℕ) → wrong_ids version ids ≡ false → boards_of ids ≤ board_limit version

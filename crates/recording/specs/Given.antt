@@ -1,5 +1,5 @@
 -- The records that a call of `write` is given.
-use Rattle.std.specs.Prelude.{ℕ, Bool, List}
+use Rattle.std.specs.Prelude.{Bool, List}
 use Rattle.captures.specs.Form.{Record}
 use Rattle.captures.specs.Writing.{record_list, describes_records, SideBySide}
 use Rattle.recording.specs.declared.Records.{Records}

@@ -1,19 +1,19 @@
 // Writes a capture of version 2, or its head and its records one at a time, into a lent buffer, as `captures` defines their bytes.
 #![tactic(auto)]
 
-ghost use Rattle.std.specs.Prelude.{not, ◌++◌, ◌≡◌, ◌+◌, ◌*◌, ◌≤◌, ltb, length};
+ghost use Rattle.std.specs.Prelude.{true, not, ◌++◌, ◌≡◌, ◌+◌, ◌*◌, ◌≤◌, ltb, length};
 ghost use Rattle.octets.specs.Octets.{overwrite, Overwrites};
 ghost use Rattle.framing.specs.Refusal.{checked};
-ghost use Rattle.captures.specs.Form.{mark, version_number, newest, index_size, ids_at, packet_at, board_limit, record_of, record_bytes, records_bytes, head_bytes, boards_of};
+ghost use Rattle.captures.specs.Form.{mark, version_number, newest, index_size, ids_at, packet_at, board_limit, record_of, record_bytes, records_bytes, head_bytes, capture_bytes, boards_of};
 ghost use Rattle.captures.specs.Numbers.{bytes_of};
 ghost use Rattle.recording.specs.Given.{list_of, describes, StandSideBySide};
 ghost use Rattle.captures.specs.Writing.{wrong_ids, head_call, WritesHead, record_call, WritesRecord, every_in_range, write_call, WritesCapture};
 
 use captures::Version;
-use captures::writing::Written;
 use framing::Check;
+use refusals::Refusal;
 
-// Refusal 52: IDs of 16 bytes each, of 1 to 1,000 boards.
+// `WrongBoards`: IDs of 16 bytes each, of 1 to 1,000 boards.
 fn check_ids(ids: &[u8]) -> Check
     ensures { result ≡ checked (wrong_ids newest ids.now) }
 {
@@ -43,7 +43,7 @@ fn head_start(boards: usize) -> [u8; captures::IDS_AT]
 }
 
 // Puts the head into the first bytes of `buffer`, and says whether it fits.
-fn put_head(buffer: &mut [u8], ids: &[u8]) -> bool
+pub fn put_head(buffer: &mut [u8], ids: &[u8]) -> bool
     requires { boards_of ids.now ≤ board_limit newest }
     ensures { Overwrites buffer.old 0 (head_bytes newest ids.now) result buffer.new }
 {
@@ -53,16 +53,16 @@ fn put_head(buffer: &mut [u8], ids: &[u8]) -> bool
 
 // Writes the head of a capture of the boards with these IDs, 16 bytes each, into the first bytes of `buffer`; the rest stays.
 #[tactic(auto, unfolding(captures::specs::Writing::head_call_refusals, framing::specs::Refusal::first_refusal))]
-pub fn write_head(buffer: &mut [u8], ids: &[u8]) -> Written
+pub fn write_head(buffer: &mut [u8], ids: &[u8]) -> Result<usize, Refusal>
     ensures { WritesHead (head_call buffer.old ids.now) result buffer.new }
 {
     let Check::Passed = check_ids(ids) else {
-        return Written::Refused(52);
+        return Err(Refusal::WrongBoards);
     };
     if !put_head(buffer, ids) {
-        return Written::Refused(54);
+        return Err(Refusal::NoSpace);
     }
-    Written::Length(captures::IDS_AT + ids.len())
+    Ok(captures::IDS_AT + ids.len())
 }
 
 // What stands before the packet of a record.
@@ -102,41 +102,20 @@ pub fn write_record(
     direction: u8,
     counter: u32,
     packet: &[u8],
-) -> Written
+) -> Result<usize, Refusal>
     ensures { WritesRecord (record_call buffer.old boards (record_of index direction counter packet.now)) result buffer.new }
 {
     let count = usize::from(boards);
     let Check::Passed = captures::check_count(Version::Two, count) else {
-        return Written::Refused(52);
+        return Err(Refusal::WrongBoards);
     };
     if !captures::in_range(count, index, direction, packet.len()) {
-        return Written::Refused(53);
+        return Err(Refusal::WrongRecord);
     }
     if !put_record(buffer, 0, index, direction, counter, packet) {
-        return Written::Refused(54);
+        return Err(Refusal::NoSpace);
     }
-    Written::Length(captures::PACKET_AT + packet.len())
-}
-
-// Refusal 54: the head, with so many bytes of IDs, and so many records, with so many bytes of packets, have room.
-fn check_room(room: usize, ids: usize, records: usize, packets: usize) -> Check
-    ensures { result ≡ checked (ltb room (ids_at newest + ids + (packet_at newest * records + packets))) }
-{
-    if room < captures::IDS_AT {
-        return Check::Failed;
-    }
-    let after_start = room - captures::IDS_AT;
-    if after_start < ids {
-        return Check::Failed;
-    }
-    let after_ids = after_start - ids;
-    if after_ids < packets {
-        return Check::Failed;
-    }
-    if (after_ids - packets) / captures::PACKET_AT < records {
-        return Check::Failed;
-    }
-    Check::Passed
+    Ok(captures::PACKET_AT + packet.len())
 }
 
 // Records as a caller gives them: their indexes, directions, counters and lengths of packet in four slices side by side, and their packets
@@ -156,7 +135,9 @@ impl<'a> Records<'a> {
         ensures { result ≡ checked (not (describes self.now)) }
     {
         let count = self.indexes.len();
-        let side_by_side = self.directions.len() == count && self.counters.len() == count && self.lengths.len() == count;
+        let side_by_side = self.directions.len() == count
+            && self.counters.len() == count
+            && self.lengths.len() == count;
         framing::passed_if(side_by_side && octets::adds_up(self.lengths, self.packets.len()))
     }
 
@@ -176,6 +157,21 @@ impl<'a> Records<'a> {
             left = octets::bytes_after(left, size);
         }
         Check::Passed
+    }
+
+    // `NoSpace`: the head, with these IDs, and the records have room.
+    #[tactic(auto, using(captures::proofs::Lists::length_capture))]
+    fn check_room(&self, room: usize, ids: &[u8]) -> Check
+        requires { describes self.now ≡ true }
+        ensures { result ≡ checked (ltb room (length (capture_bytes newest ids.now (list_of self.now)))) }
+    {
+        let Some(behind_head) = room.checked_sub(captures::IDS_AT + ids.len()) else {
+            return Check::Failed;
+        };
+        let Some(left) = behind_head.checked_sub(self.packets.len()) else {
+            return Check::Failed;
+        };
+        framing::passed_if(self.indexes.len() <= left / captures::PACKET_AT)
     }
 
     // Puts the records into `buffer` from `at` on, where they have room, and says where they end.
@@ -217,11 +213,11 @@ pub fn write(
     counters: &[u32],
     lengths: &[u16],
     packets: &[u8],
-) -> Written
+) -> Result<usize, Refusal>
     ensures { WritesCapture (write_call buffer.old ids.now indexes.now directions.now counters.now lengths.now packets.now) result buffer.new }
 {
     let Check::Passed = check_ids(ids) else {
-        return Written::Refused(52);
+        return Err(Refusal::WrongBoards);
     };
     let records = Records {
         indexes,
@@ -231,17 +227,17 @@ pub fn write(
         packets,
     };
     let Check::Passed = records.check_list() else {
-        return Written::Refused(53);
+        return Err(Refusal::WrongRecord);
     };
     let boards = ids.len() / framing::ID_SIZE;
     let Check::Passed = records.check_fields(boards) else {
-        return Written::Refused(53);
+        return Err(Refusal::WrongRecord);
     };
-    let Check::Passed = check_room(buffer.len(), ids.len(), indexes.len(), packets.len()) else {
-        return Written::Refused(54);
+    let Check::Passed = records.check_room(buffer.len(), ids) else {
+        return Err(Refusal::NoSpace);
     };
     put_head(buffer, ids);
     let start = captures::IDS_AT + ids.len();
     let end = records.put(buffer, start);
-    Written::Length(end)
+    Ok(end)
 }
