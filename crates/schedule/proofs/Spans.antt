@@ -12,8 +12,8 @@ use lib.ListN.{length, get_or}
 use Rattle.octets.proofs.Booleans.{both_true}
 use Rattle.rows.proofs.Bools.{either}
 use Rattle.schedule.specs.declared.Entry.{Entry}
-use Rattle.schedule.specs.declared.Span.{Span}
-use Rattle.schedule.specs.declared.Span.TheVariants.{Until, Nothing}
+use Rattle.std.specs.Prelude.{Option, None, Some}
+use Rattle.std.specs.declared.ops.Range.{Range}
 use Rattle.schedule.specs.Days.{is_day, is_period, contains, is_empty, is_writable, first_day, days_of}
 use Rattle.schedule.specs.Entries.{with_entry, with_days}
 use Rattle.schedule.specs.Operations.{day_in, period_in, writes}
@@ -42,18 +42,15 @@ pub days_end : (entries : List Entry) (first end period : ℕ) (new : Entry) →
 unfolding with_days
 days_end entries first end period new h = rw (no_days first end h)
 
-not_nothing : (first end : ℕ) → Nothing ≡ Until first end → ⊥
-not_nothing first end e = let z : ◌≡◌ {A = ℕ} 0 1 = cc in omega arith
-
 -- each is a day
 daily : List ℕ → Bool
 daily [] = true
 daily (day ∷ days) = is_day day && daily days
 
 -- a span that has these days
-abbrev Spans : Span → List ℕ → Type 0
-Spans (Until first end) days = (days ≡ days_from (end - first) first) × (get_or days 0 0 ≡ first) × (is_empty days ≡ false)
-Spans Nothing days = is_empty days ≡ true
+abbrev Spans : Option (Range ℕ) → List ℕ → Type 0
+Spans (Some span) days = (days ≡ days_from (span.end - span.start) span.start) × (get_or days 0 0 ≡ span.start) × (is_empty days ≡ false)
+Spans None days = is_empty days ≡ true
 
 one_day : (day : ℕ) → day ∷ [] ≡ days_from (suc day - day) day
 unfolding days_from
@@ -85,8 +82,8 @@ stands day = all (eqb day 0) refl
                 one true h = rw (e, f, g, h) ((one_day day, refl, refl), rw h)
                 one false h = rw (e, f, g, h) (refl, refl)
 
-span_days : (day : ℕ) (span : Span) → span_of day ≡ span → Spans span (days_of day)
-span_days day span e = subst (λ (s : Span). Spans s (days_of day)) e (stands day).0
+span_days : (day : ℕ) (span : Option (Range ℕ)) → span_of day ≡ span → Spans span (days_of day)
+span_days day span e = subst (λ (s : Option (Range ℕ)). Spans s (days_of day)) e (stands day).0
 
 -- what is among them is a day
 contained : (days : List ℕ) (day : ℕ) → daily days ≡ true → contains days day ≡ true → is_day day ≡ true
@@ -103,27 +100,27 @@ pub contained_days : (written day : ℕ) → contains (days_of written) day ≡ 
 contained_days written day h = contained (days_of written) day (stands written).1 h
 
 -- what a span that a value has says of it
-pub record Found (value : List ℕ) (first end : ℕ) : Type 0 where
+pub record Found (value : List ℕ) (span : Range ℕ) : Type 0 where
   pub sized : length value ≡ 6
   pub written : writes value ≡ true
-  pub days : days_of (day_in value) ≡ days_from (end - first) first
-  pub begins : first_day (day_in value) ≡ first
+  pub days : days_of (day_in value) ≡ days_from (span.end - span.start) span.start
+  pub begins : first_day (day_in value) ≡ span.start
 
-pub found : (value : List ℕ) (first end : ℕ) → span_in value ≡ Until first end → Found value first end
-found value first end = choose (eqb (length value) 6) (is_period (period_in value)) refl refl
+pub found : (value : List ℕ) (span : Range ℕ) → span_in value ≡ Some span → Found value span
+found value span = choose (eqb (length value) 6) (is_period (period_in value)) refl refl
   where
-    choose : (a b : Bool) → eqb (length value) 6 ≡ a → is_period (period_in value) ≡ b → cond (a && b) (span_of (day_in value)) Nothing ≡ Until first end
-        → Found value first end
+    choose : (a b : Bool) → eqb (length value) 6 ≡ a → is_period (period_in value) ≡ b → cond (a && b) (span_of (day_in value)) None ≡ Some span
+        → Found value span
     choose true true p q e =
-        let these : Spans (Until first end) (days_of (day_in value)) = span_days (day_in value) (Until first end) e in
+        let these : Spans (Some span) (days_of (day_in value)) = span_days (day_in value) (Some span) e in
         record { sized = eqb-true (length value) 6 p; written = rw (p, q, these.2); days = these.0; begins = these.1 }
-    choose true false p q e = absurd (not_nothing first end e)
-    choose false b p q e = absurd (not_nothing first end e)
+    choose true false p q e = absurd cc
+    choose false b p q e = absurd cc
 
-pub not_found : (value : List ℕ) → span_in value ≡ Nothing → writes value ≡ false
+pub not_found : (value : List ℕ) → span_in value ≡ None → writes value ≡ false
 not_found value = choose (eqb (length value) 6) (is_period (period_in value))
   where
-    choose : (a b : Bool) → cond (a && b) (span_of (day_in value)) Nothing ≡ Nothing → (a && is_writable (day_in value) && b) ≡ false
-    choose true true e = rw (span_days (day_in value) Nothing e)
+    choose : (a b : Bool) → cond (a && b) (span_of (day_in value)) None ≡ None → (a && is_writable (day_in value) && b) ≡ false
+    choose true true e = rw (span_days (day_in value) None e)
     choose true false e = and-false (is_writable (day_in value))
     choose false b e = refl

@@ -1,5 +1,6 @@
 -- The entries of the schedule: one for each day and period.
-use Rattle.std.specs.Prelude.{ℕ, ◌+◌, ◌*◌, ◌-◌, Bool, true, cond, ◌&&◌, ◌||◌, List, [], ◌∷◌, eqb, leb, get_or, set, replicate}
+use Rattle.std.specs.Prelude.{ℕ, ◌+◌, ◌*◌, ◌-◌, Bool, cond, ◌&&◌, ◌||◌, List, [], ◌∷◌, eqb, leb, get_or, set, replicate}
+use Rattle.std.specs.List.{list_all}
 use Rattle.octets.specs.Octets.{between}
 use Rattle.rows.specs.declared.WholeDegrees.{WholeDegrees}
 use Rattle.schedule.specs.Days.{has_entry}
@@ -53,8 +54,7 @@ abbrev pub start : Schedule
 start = record { entries = replicate entry_count lowest }
 
 unfoldable pub all_legal : List Entry → Bool
-all_legal [] = true
-all_legal (e ∷ es) = legal e && all_legal es
+all_legal = list_all legal
 
 -- each entry's fields are in their ranges
 abbrev pub sound : Schedule → Bool

@@ -3,12 +3,13 @@
 
 ghost use Rattle.std.specs.Prelude.{◌-◌, ◌<◌, true, ◌≡◌};
 ghost use Rattle.schedule.specs.Days.{is_day, is_period, has_entry};
-ghost use Rattle.schedule.specs.Entries.{is_temperature, legal, lowest as lowest_entry, entry_count, place_of, entry_at, with_entry, with_days};
+ghost use Rattle.schedule.specs.Entries.{is_temperature, legal, entry_count, place_of, entry_at, with_entry, with_days};
 ghost use Rattle.schedule.specs.Entries.{start as start_of, sound as sound_of};
 ghost use Rattle.schedule.specs.Operations.{entry_in, asked_by, addressed_by, answered, report_of, written};
 ghost use Rattle.schedule.specs.Spans.{span_of, span_in, days_from};
 
 use rows::WholeDegrees;
+use std::ops::Range;
 
 const ENTRIES: usize = 28;
 
@@ -22,11 +23,19 @@ pub struct Entry {
     pub hour: u8,
 }
 
+// The lowest values.
+const LOWEST: Entry = Entry {
+    speed: 0,
+    temperature: WholeDegrees { degrees: 0 },
+    minute: 0,
+    hour: 0,
+};
+
 // The entries by day and, within a day, by period.
 #[repr(C)]
 #[derive(Clone, Copy)]
 pub struct Schedule {
-    pub entries: [Entry; 28],
+    pub entries: [Entry; ENTRIES],
 }
 
 // What a command is answered with: an entry, the mark of an unknown parameter, or nothing.
@@ -37,38 +46,29 @@ pub enum Answer {
     Silence,
 }
 
-// The days that a written day stands for, from the first until before the end.
-#[derive(Clone, Copy)]
-enum Span {
-    Until { first: u8, end: u8 },
-    Nothing,
-}
-
-fn span_of(day: u8) -> Span
+// The days that a written day stands for.
+fn span_of(day: u8) -> Option<Range<u8>>
     ensures { result ≡ span_of day }
 {
     match day {
-        0 => Span::Until { first: 1, end: 8 },
-        1..=7 => Span::Until {
-            first: day,
-            end: day + 1,
-        },
-        8 => Span::Until { first: 1, end: 6 },
-        9 => Span::Until { first: 6, end: 8 },
-        _ => Span::Nothing,
+        0 => Some(1..8),
+        1..=7 => Some(day..day + 1),
+        8 => Some(1..6),
+        9 => Some(6..8),
+        _ => None,
     }
 }
 
 fn is_day(day: u8) -> bool
     ensures { result ≡ is_day day }
 {
-    octets::is_between(1, 7, day)
+    (1..=7).contains(&day)
 }
 
 fn is_period(period: u8) -> bool
     ensures { result ≡ is_period period }
 {
-    octets::is_between(1, 4, period)
+    (1..=4).contains(&period)
 }
 
 // Whether a day and a period have an entry.
@@ -81,36 +81,23 @@ fn has_entry(day: u8, period: u8) -> bool
 fn is_temperature(temperature: WholeDegrees) -> bool
     ensures { result ≡ is_temperature temperature }
 {
-    let degrees = temperature.degrees;
-    degrees == 0 || octets::is_between(15, 30, degrees)
+    temperature.degrees == 0 || (15..=30).contains(&temperature.degrees)
 }
 
 fn is_legal(entry: Entry) -> bool
     ensures { result ≡ legal entry }
 {
-    if 5 < entry.speed {
-        return false;
-    }
-    if !is_temperature(entry.temperature) {
-        return false;
-    }
-    if 59 < entry.minute {
-        return false;
-    }
-    entry.hour <= 23
+    entry.speed <= 5 && is_temperature(entry.temperature) && entry.minute <= 59 && entry.hour <= 23
 }
 
 // The days that a value writes; none where it is no value of a write.
-fn span_in(value: &[u8]) -> Span
+fn span_in(value: &[u8]) -> Option<Range<u8>>
     ensures { result ≡ span_in value.now }
 {
-    if value.len() != 6 {
-        return Span::Nothing;
+    match value {
+        &[day, period, _, _, _, _] if is_period(period) => span_of(day),
+        _ => None,
     }
-    if !is_period(value[1]) {
-        return Span::Nothing;
-    }
-    span_of(value[0])
 }
 
 // The entry that a value writes.
@@ -135,77 +122,58 @@ fn place_of(day: u8, period: u8) -> usize
     4 * usize::from(day) + usize::from(period) - 5
 }
 
-fn lowest() -> Entry
-    ensures { result ≡ lowest_entry }
-{
-    Entry {
-        speed: 0,
-        temperature: WholeDegrees { degrees: 0 },
-        minute: 0,
-        hour: 0,
-    }
-}
-
 fn entry_at(schedule: Schedule, day: u8, period: u8) -> Entry
     ensures { result ≡ entry_at schedule day period }
 {
-    let entries = schedule.entries;
     if has_entry(day, period) {
-        let place = place_of(day, period);
-        return entries[place];
+        return schedule.entries[place_of(day, period)];
     }
-    lowest()
+    LOWEST
 }
 
-fn with_entry(entries: [Entry; 28], day: u8, period: u8, new: Entry) -> [Entry; 28]
-    ensures { result ≡ with_entry entries day period new }
+// Puts an entry in the place of a day and a period, if these exist.
+fn put_entry(entries: &mut [Entry; ENTRIES], day: u8, period: u8, new: Entry)
+    ensures { entries.new ≡ with_entry entries.old day period new }
 {
-    let mut all = entries;
     if has_entry(day, period) {
-        let place = place_of(day, period);
-        all[place] = new;
+        entries[place_of(day, period)] = new;
     }
-    all
 }
 
-// The entries with another one for a period of each day from `first` until before `end`.
-fn with_days(entries: [Entry; 28], first: u8, end: u8, period: u8, new: Entry) -> [Entry; 28]
-    ensures { result ≡ with_days entries (days_from (end - first) first) period new }
+// The entries with another one for a period of each of these days.
+fn with_days(
+    mut entries: [Entry; ENTRIES],
+    days: Range<u8>,
+    period: u8,
+    new: Entry,
+) -> [Entry; ENTRIES]
+    ensures { result ≡ with_days entries (days_from (days.end - days.start) days.start) period new }
 {
-    let mut all = entries;
-    let mut day = first;
-    while day < end {
-        let next = with_entry(all, day, period, new);
-        all = next;
-        day += 1;
+    for day in days {
+        put_entry(&mut entries, day, period, new);
     }
-    all
+    entries
 }
 
 // 01: the entry of a day and a period.
 fn asked(value: &[u8]) -> Answer
     ensures { result ≡ asked_by value.now }
 {
-    if value.len() != 2 {
-        return Answer::Unknown;
+    match value {
+        &[day, period] if has_entry(day, period) => Answer::Entry { day, period },
+        _ => Answer::Unknown,
     }
-    let day = value[0];
-    let period = value[1];
-    if has_entry(day, period) {
-        return Answer::Entry { day, period };
-    }
-    Answer::Unknown
 }
 
 // 03: the entry of the first day written, just after the write.
 fn addressed(value: &[u8]) -> Answer
     ensures { result ≡ addressed_by value.now }
 {
-    let Span::Until { first, end: _ } = span_in(value) else {
+    let Some(days) = span_in(value) else {
         return Answer::Unknown;
     };
     Answer::Entry {
-        day: first,
+        day: days.start,
         period: value[1],
     }
 }
@@ -227,12 +195,11 @@ pub fn report(schedule: Schedule, day: u8, period: u8) -> [u8; 6]
     ensures { result ≡ report_of schedule day period }
 {
     let entry = entry_at(schedule, day, period);
-    let temperature = entry.temperature;
     [
         day,
         period,
         entry.speed,
-        temperature.degrees,
+        entry.temperature.degrees,
         entry.minute,
         entry.hour,
     ]
@@ -242,16 +209,15 @@ pub fn report(schedule: Schedule, day: u8, period: u8) -> [u8; 6]
 pub fn write(schedule: Schedule, value: &[u8]) -> Schedule
     ensures { result ≡ written schedule value.now }
 {
-    let Span::Until { first, end } = span_in(value) else {
+    let Some(days) = span_in(value) else {
         return schedule;
     };
     let entry = entry_in(value);
     if !is_legal(entry) {
         return schedule;
     }
-    let entries = schedule.entries;
     Schedule {
-        entries: with_days(entries, first, end, value[1], entry),
+        entries: with_days(schedule.entries, days, value[1], entry),
     }
 }
 
@@ -260,22 +226,14 @@ pub fn start() -> Schedule
     ensures { result ≡ start_of }
 {
     Schedule {
-        entries: [lowest(); 28],
+        entries: [LOWEST; ENTRIES],
     }
 }
 
 // Whether the fields of each entry are in their ranges.
+#[tactic(auto, unfolding(crate::specs::Entries::all_legal))]
 pub fn sound(schedule: Schedule) -> bool
     ensures { result ≡ sound_of schedule }
 {
-    let entries = schedule.entries;
-    let mut index: usize = 0;
-    while index < ENTRIES {
-        if is_legal(entries[index]) {
-            index += 1;
-        } else {
-            return false;
-        }
-    }
-    true
+    schedule.entries.iter().all(|entry| is_legal(*entry))
 }

@@ -6,11 +6,15 @@ use Rattle.schedule.proofs.with_days.Goals as goal
 pub loop-day-preserved : goal.loop-day-preserved
 loop-day-preserved c =
     let args = c.args in
+    let left = c.loop-day.day-iterator in
+    let (ends, (more, first, starts)) = c.in-Some.ensures.steps in
     c.loop-day.invariant
-    ∙ days_turn c.loop-day.all c.loop-day.day args.end args.period args.new (omega arith)
-    ∙ rw c.with_entry-next.ensures
+    ∙ days_turn c.loop-day.entries left.start left.end args.period args.new (omega arith)
+    ∙ rw (ends, starts, c.put_entry.ensures, first)
 
 pub returns : goal.returns
 returns c =
     let args = c.args in
-    sym (c.loop-day.invariant ∙ days_end c.loop-day.all c.loop-day.day args.end args.period args.new (omega arith))
+    let left = c.loop-day.day-iterator in
+    let (ends, (none, starts)) = c.in-None.ensures.steps in
+    sym (c.loop-day.invariant ∙ days_end c.loop-day.entries left.start left.end args.period args.new (omega arith))

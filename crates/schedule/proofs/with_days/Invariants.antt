@@ -5,7 +5,6 @@ use Rattle.schedule.specs.Spans.{days_from}
 use Rattle.schedule.proofs.with_days.Given as goal
 
 abbrev pub invariant-loop-day : goal.invariant-loop-day
-invariant-loop-day l = with_days l.initial.all (days_from (l.end - l.first) l.first) l.period l.new ≡ with_days l.all (days_from (l.end - l.day) l.day) l.period l.new
-
-abbrev pub decreases-loop-day : goal.decreases-loop-day
-decreases-loop-day l = l.end - l.day
+invariant-loop-day l =
+    with_days l.initial.entries (days_from (l.fn.days.end - l.fn.days.start) l.fn.days.start) l.period l.new
+    ≡ with_days l.entries (days_from (l.day-iterator.end - l.day-iterator.start) l.day-iterator.start) l.period l.new
