@@ -41,7 +41,7 @@ first_decides :
 unfolding or_else
 first_decides (some found) rest small later = (λ e. e, λ e. e)
 first_decides none rest {refusal} small later =
-    (λ e. absurd (omega (arith, leb-true 7 (number_of refusal) (later refusal e))), λ e. let impossible : ◌≡◌ {A = ℕ} 0 1 = cc in absurd (omega arith))
+    (λ e. absurd (omega (arith, leb-true 7 (number_of refusal) (later refusal e))), λ e. absurd cc)
 
 -- a line with one digit has no other number
 line_number : (found number : ℕ) → number ≤ 6 → refused_line found ≡ refused_line number → found ≡ number
@@ -60,7 +60,7 @@ listing_number :
     (refused : Option Refusal) (found : List Report) {refusal : Refusal} → number_of refusal ≤ 6
     → (listing_as refused found ≡ refused_line (number_of refusal)) ↔ (refused ≡ some refusal)
 listing_number none found small =
-    (λ e. absurd (omega (arith, ap (λ (l : List ℕ). get_or l 0 0) e)), λ e. let impossible : ◌≡◌ {A = ℕ} 0 1 = cc in absurd (omega arith))
+    (λ e. absurd (omega (arith, ap (λ (l : List ℕ). get_or l 0 0) e)), λ e. absurd cc)
 listing_number (some other) found {refusal} small =
     (λ e. ap some (numbers_distinct other refusal (line_number (number_of other) (number_of refusal) small e)), λ e. ap (λ (o : Option Refusal). listing_as o found) e)
 

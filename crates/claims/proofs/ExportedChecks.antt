@@ -41,13 +41,19 @@ of_number (suc (suc (suc (suc (suc (suc (suc more))))))) large small = absurd (o
 
 -- an answer has the number of a refusal exactly when it is refused so
 result_number : {A : Type 0} (a : Result A Refusal) (refusal : Refusal) → (number_in a ≡ number_of refusal) ↔ (a ≡ Err refusal)
-result_number (Ok answer) refusal = (λ e. absurd (omega (arith, numbers_above_zero refusal)), λ e. ap number_in e)
-result_number (Err other) refusal = (λ e. ap Err (numbers_distinct other refusal e), λ e. ap number_in e)
+result_number {A} a refusal = (by_number a, ap number_in)
+  where
+    by_number : (a : Result A Refusal) → number_in a ≡ number_of refusal → a ≡ Err refusal
+    by_number (Ok answer) e = absurd (omega (arith, numbers_above_zero refusal))
+    by_number (Err other) e = ap Err (numbers_distinct other refusal e)
 
 answer_number : (a : Answer) (refusal : Refusal) → ((reply_of a).refusal ≡ number_of refusal) ↔ (a ≡ answer.Refused refusal)
-answer_number (answer.Refused other) refusal = (λ e. ap answer.Refused (numbers_distinct other refusal e), λ e. ap (λ (a : Answer). (reply_of a).refusal) e)
-answer_number answer.Silence refusal = (λ e. absurd (omega (arith, numbers_above_zero refusal)), λ e. ap (λ (a : Answer). (reply_of a).refusal) e)
-answer_number (answer.Response length) refusal = (λ e. absurd (omega (arith, numbers_above_zero refusal)), λ e. ap (λ (a : Answer). (reply_of a).refusal) e)
+answer_number a refusal = (by_number a, ap (λ (a : Answer). (reply_of a).refusal))
+  where
+    by_number : (a : Answer) → (reply_of a).refusal ≡ number_of refusal → a ≡ answer.Refused refusal
+    by_number (answer.Refused other) e = ap answer.Refused (numbers_distinct other refusal e)
+    by_number answer.Silence e = absurd (omega (arith, numbers_above_zero refusal))
+    by_number (answer.Response length) e = absurd (omega (arith, numbers_above_zero refusal))
 
 parts_number : (p : Result Places Refusal) → (parts_of p).refusal ≡ number_in p
 parts_number (Ok places) = refl

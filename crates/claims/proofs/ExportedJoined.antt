@@ -53,13 +53,13 @@ module _ {c : Call} (called : PacketCalled c) where
 
   -- a response has a length
   long : {size : ℕ} → follows.result.answer ≡ Response size → 1 ≤ size
-  long {size} e = by_answer (none_answered c (none_refused c (λ refusal k. let impossible : ◌≡◌ {A = ℕ} 0 1 = cc (told, k) in omega arith)))
+  long {size} e = by_answer (none_answered c (none_refused c (λ refusal k. cc (told, k))))
     where
       told : (step c).answer ≡ Response size
       told = sym follows.contract.answer ∙ e
 
       by_answer : Silent c ⊎ Responds c → 1 ≤ size
-      by_answer (inl silent) = let impossible : ◌≡◌ {A = ℕ} 0 1 = cc (told, silent.answer) in absurd (omega arith)
+      by_answer (inl silent) = absurd (cc (told, silent.answer))
       by_answer (inr responds) =
           let whole : size ≡ responds.size = cc (told, responds.answer) in
           omega (arith, responds.exact, length_packet (response (request c)))

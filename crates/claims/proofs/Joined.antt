@@ -183,11 +183,11 @@ told {c} made =
     }
   where
     no_refusal : (step c).answer ≡ Silence → (refusal : Refusal) → (step c).answer ≡ Refused refusal → ⊥
-    no_refusal e refusal k = let impossible : ◌≡◌ {A = ℕ} 0 1 = cc in omega arith
+    no_refusal e refusal k = cc
 
     by_answer : (step c).answer ≡ Silence → Silent c ⊎ Responds c → reports_of (request c) ≡ []
     by_answer e (inl silent) = silent.reports
-    by_answer e (inr responds) = let impossible : ◌≡◌ {A = ℕ} 0 1 = cc (e, responds.answer) in absurd (omega arith)
+    by_answer e (inr responds) = absurd (cc (e, responds.answer))
 
 pub answers_told : AnswersTold
 answers_told c made = (reports_of (request c), told made)
@@ -231,4 +231,4 @@ contracts_join first second earlier later one two turn taken taken_too reports m
     }
   where
     never_both : {o : Option Refusal} {refusal : Refusal} → o ≡ none → o ≡ some refusal → ⊥
-    never_both e k = let impossible : ◌≡◌ {A = ℕ} 0 1 = cc in omega arith
+    never_both e k = cc

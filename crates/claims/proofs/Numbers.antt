@@ -16,7 +16,7 @@ pub number_passes :
     {A : Type 0} (test : ℕ → Bool) (rows : List (Rule A)) (asked : A) {refusal : Refusal}
     → every (λ (row : Rule A). test (number_of row.refusal)) rows ≡ true → first_refusal rows asked ≡ some refusal → test (number_of refusal) ≡ true
 unfolding every first_refusal
-number_passes test [] asked h e = let impossible : ◌≡◌ {A = ℕ} 0 1 = cc in absurd (omega arith)
+number_passes test [] asked h e = absurd cc
 number_passes {A} test (row ∷ rows) asked {refusal} h e =
     let both = both_true (test (number_of row.refusal)) (every (λ (r : Rule A). test (number_of r.refusal)) rows) h in
     by_row (row.applies asked) both.0 (number_passes test rows asked both.1) e

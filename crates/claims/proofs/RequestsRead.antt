@@ -72,7 +72,7 @@ packet_sent given {answer} {written} {size} writes e = by_refusal (write_refusal
           taken = writer_takes given none_refused;
           packet_written = (λ i. take (whole i) (held i)) ∙ take_at (packet_of (request_of given)) _ (length (packet_of (request_of given))) refl;
         }
-    by_refusal (some refusal) refused told held = let impossible : ◌≡◌ {A = ℕ} 0 1 = cc in absurd (omega arith)
+    by_refusal (some refusal) refused told held = absurd cc
 
 -- and is read as the frame that was written
 pub frame_read : (given : WriteCall) {packet : List ℕ} → PacketSent given packet → (packet_refusal packet ≡ none) × (frame_of packet ≡ request_of given)

@@ -52,7 +52,7 @@ responded c {result} {after} {size} steps e = by_refusal (step_refusal c) refl
     told = sym steps.answer ∙ e
 
     by_answer : PassedStep c → Silent c ⊎ Responds c → Responded c (take size after)
-    by_answer passed (inl silent) = let impossible : ◌≡◌ {A = ℕ} 0 1 = cc (told, silent.answer) in absurd (omega arith)
+    by_answer passed (inl silent) = absurd (cc (told, silent.answer))
     by_answer passed (inr responds) =
         let whole : size ≡ responds.size = cc (told, responds.answer) in
         record { passed = passed; packet_sent = (λ i. take (whole i) (steps.buffer i)) ∙ responds.sent }
@@ -60,7 +60,7 @@ responded c {result} {after} {size} steps e = by_refusal (step_refusal c) refl
     by_refusal : (o : Option Refusal) → step_refusal c ≡ o → Responded c (take size after)
     by_refusal none none_refused = by_answer (passed_step c none_refused) ((packets_answered c).accepted.1 (first_none step_refusals c none_refused))
     by_refusal (some refusal) refused =
-        let impossible : ◌≡◌ {A = ℕ} 0 1 = cc (told, ap (λ (o : Outcome). o.answer) (step_refused c refused)) in absurd (omega arith)
+        absurd (cc (told, ap (λ (o : Outcome). o.answer) (step_refused c refused)))
 
 -- the ID asked by is the default one, or that of the board
 same_id : (asked own : List ℕ) → not (same asked own || same asked default_id) ≡ false → other_id asked own ≡ false
@@ -69,7 +69,7 @@ same_id asked own h = by_own (same asked own) (same asked default_id) refl h
     by_own : (is_own default : Bool) → same asked own ≡ is_own → not (is_own || default) ≡ false → (not default && not (same own asked)) ≡ false
     by_own is_own true e h = refl
     by_own true false e h = ap not (same_as (sym (same_equal asked own e)))
-    by_own false false e h = let impossible : ◌≡◌ {A = ℕ} 0 1 = cc in absurd (omega arith)
+    by_own false false e h = absurd cc
 
 -- a password that the tool sends: that of the board, unless a discovery bears another
 sendable :

@@ -1,13 +1,24 @@
 // The tool's calls for programs in other languages: answers are numbers.
 ghost use Rattle.std.specs.Prelude.{◌≡◌};
-ghost use Rattle.firmware.specs.Client.{WritesInNumbers, ListsInNumbers};
+ghost use Rattle.refusals.specs.Refusals.{number_in};
+ghost use Rattle.firmware.specs.Client.{WritesInNumbers, ListsInNumbers, written_reply};
 ghost use Rattle.tool.specs.Listing.{listing};
 ghost use Rattle.tool.specs.Request.{write_call};
-ghost use Rattle.refusals.specs.Refusals.{number_in};
 ghost use Rattle.tool.specs.Response.{read_call, response_of};
 
 use super::Reply;
-use refusals::number_in;
+use refusals::{Refusal, number_in};
+
+impl From<Result<usize, Refusal>> for Reply {
+    ghost from_gives = { λ answer reply. reply ≡ written_reply answer };
+
+    fn from(answer: Result<usize, Refusal>) -> Reply {
+        Reply {
+            refusal: u16::from(number_in(answer)),
+            length: answer.unwrap_or(0),
+        }
+    }
+}
 
 // Writes the request packet of a command list into the first bytes of `buffer`, as `request::write`.
 pub fn udgornwy_write(
@@ -21,13 +32,7 @@ pub fn udgornwy_write(
 ) -> Reply
     ensures { WritesInNumbers (write_call buffer.old id.now password.now functions.now numbers.now lengths.now values.now) result buffer.new }
 {
-    match tool::request::write(buffer, id, password, functions, numbers, lengths, values) {
-        Ok(length) => Reply { refusal: 0, length },
-        Err(refusal) => Reply {
-            refusal: u16::from(refusal.number()),
-            length: 0,
-        },
-    }
+    Reply::from(tool::request::write(buffer, id, password, functions, numbers, lengths, values))
 }
 
 // Judges a response to a request that asked for `id` and sent `password`: the number of the refusal, 0 where there is none.
@@ -41,11 +46,5 @@ pub fn udgornwy_read(packet: &[u8], id: &[u8], password: &[u8]) -> u16
 pub fn udgornwy_list(text: &mut [u8], packet: &[u8]) -> Reply
     ensures { ListsInNumbers (listing packet.now) text.old result text.new }
 {
-    match tool::listing::list(text, packet) {
-        Some(length) => Reply { refusal: 0, length },
-        None => Reply {
-            refusal: 1,
-            length: 0,
-        },
-    }
+    Reply::from(tool::listing::list(text, packet).ok_or(Refusal::ShortBuffer))
 }

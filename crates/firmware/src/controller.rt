@@ -9,38 +9,21 @@ use super::Reply;
 use model::{Answer, Answered, Board};
 use refusals::number_in;
 
-#[derive(Clone, Copy)]
-struct Replied {
-    pub board: Board,
-    pub reply: Reply,
-}
+impl From<Answer> for Reply {
+    ghost from_gives = { λ answer reply. reply ≡ reply_of answer };
 
-fn reply_of(answer: Answer) -> Reply
-    ensures { result ≡ reply_of answer }
-{
-    match answer {
-        Answer::Refused(refusal) => Reply {
-            refusal: u16::from(refusal.number()),
-            length: 0,
-        },
-        Answer::Silence => Reply {
-            refusal: 0,
-            length: 0,
-        },
-        Answer::Response(length) => Reply { refusal: 0, length },
-    }
-}
-
-// The packet step with its answer in numbers.
-fn packet_reply(board: Board, packet: &[u8], response: &mut [u8]) -> Replied
-    ensures { Replies (call board packet.now response.old) result.board result.reply response.new }
-{
-    let stepped = board::packet(board, packet, response);
-    let next = stepped.board;
-    let answer = stepped.answer;
-    Replied {
-        board: next,
-        reply: reply_of(answer),
+    fn from(answer: Answer) -> Reply {
+        match answer {
+            Answer::Refused(refusal) => Reply {
+                refusal: u16::from(refusal.number()),
+                length: 0,
+            },
+            Answer::Silence => Reply {
+                refusal: 0,
+                length: 0,
+            },
+            Answer::Response(length) => Reply { refusal: 0, length },
+        }
     }
 }
 
@@ -48,9 +31,9 @@ fn packet_reply(board: Board, packet: &[u8], response: &mut [u8]) -> Replied
 pub fn udgornwy_packet(board: &mut Board, packet: &[u8], response: &mut [u8]) -> Reply
     ensures { Replies (call board.old packet.now response.old) board.new result response.new }
 {
-    let done = packet_reply(*board, packet, response);
-    *board = done.board;
-    done.reply
+    let stepped = board::packet(*board, packet, response);
+    *board = stepped.board;
+    Reply::from(stepped.answer)
 }
 
 // The board to keep, and the number of the refusal, 0 where there is none.
@@ -61,12 +44,14 @@ pub struct CallResult {
     pub refusal: u16,
 }
 
-fn in_numbers(answered: Answered) -> CallResult
-    ensures { result ≡ result_of answered.board answered.verdict }
-{
-    CallResult {
-        board: answered.board,
-        refusal: u16::from(number_in(answered.verdict)),
+impl From<Answered> for CallResult {
+    ghost from_gives = { λ answered kept. kept ≡ result_of answered.board answered.verdict };
+
+    fn from(answered: Answered) -> CallResult {
+        CallResult {
+            board: answered.board,
+            refusal: u16::from(number_in(answered.verdict)),
+        }
     }
 }
 
@@ -74,12 +59,12 @@ fn in_numbers(answered: Answered) -> CallResult
 pub fn udgornwy_set_up(id: &[u8], password: &[u8], mode: u8, unit: u8) -> CallResult
     ensures { result ≡ set_up_result (set_up id.now password.now mode unit) }
 {
-    in_numbers(board::set_up(id, password, mode, unit))
+    CallResult::from(board::set_up(id, password, mode, unit))
 }
 
 // Stores a measured value in its read-only row.
 pub fn udgornwy_measure(board: Board, number: u16, value: &[u8]) -> CallResult
     ensures { result ≡ measure_result (measure_call board number value.now) }
 {
-    in_numbers(board::measure(board, number, value))
+    CallResult::from(board::measure(board, number, value))
 }
