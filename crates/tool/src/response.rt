@@ -1,18 +1,38 @@
 // Reads a response packet.
 ghost use Rattle.std.specs.Prelude.{◌≡◌};
+ghost use Rattle.framing.specs.Packet.{places_of};
 ghost use Rattle.framing.specs.Refusal.{first_refusal, checked};
-ghost use Rattle.framing.specs.Packet.{places_of, frame_of};
 ghost use Rattle.framing.specs.Statements.{Stands};
-ghost use Rattle.tool.specs.Response.{read_call, response_of, response_as, response_refusals, any_response_of, other_id, other_password, no_response, malformed_block};
+ghost use Rattle.tool.specs.Response.{read_call, received, frame_refusals, response_of, response_as, any_response_of, other_id, other_password, no_response, malformed_block};
 
-use framing::{Check, Parsed, Places};
+use super::kinds;
+use super::kinds::Kind;
+use framing::{Check, Places};
+use refusals::Refusal;
 
-#[derive(Clone, Copy)]
-pub enum Response {
-    // The data block stands from `block` to `end`; its reports are what `reports::next_report` hands out, from page 0 on.
-    Accepted { block: usize, end: usize },
-    // The number of the refusal.
-    Refused(u8),
+// Where the data block of an accepted packet stands, from `block` to `end`. The reports of a response are what
+// `reports::next_report` hands out, from page 0 on.
+#[derive(Clone, Copy, Debug, PartialEq, Eq)]
+pub struct Block {
+    pub block: usize,
+    pub end: usize,
+}
+
+// The packets that boards send.
+struct Responses;
+
+impl Kind for Responses {
+    ghost wrong_function = { no_response };
+
+    ghost wrong_block = { λ function block. malformed_block block };
+
+    fn check_function(function: u8) -> Check {
+        framing::passed_if(function == 6)
+    }
+
+    fn check_block(_function: u8, block: &[u8]) -> Check {
+        framing::passed_if(reports::well_formed(block))
+    }
 }
 
 fn check_same_id(asked: &[u8], found: &[u8]) -> Check
@@ -30,69 +50,43 @@ fn check_same_password(sent: &[u8], found: &[u8]) -> Check
     framing::passed_if(octets::equal(found, sent))
 }
 
-fn check_function(function: u8) -> Check
-    ensures { result ≡ checked (no_response function) }
-{
-    framing::passed_if(function == 6)
-}
-
-fn check_block(block: &[u8]) -> Check
-    ensures { result ≡ checked (malformed_block block.now) }
-{
-    framing::passed_if(reports::well_formed(block))
-}
-
-// Refusals 9 and 10, of a packet that passed 2 to 6.
-fn read_block(packet: &[u8], places: Places) -> Response
+// Refusals 7 to 10, of a packet that passed 2 to 6.
+#[tactic(auto, using(framing::proofs::Answers::id_found, framing::proofs::Answers::password_found, crate::proofs::Refusals::response_left), unfolding(crate::specs::Response::frame_refusals, crate::specs::Response::response_refusals, framing::specs::Refusal::first_refusal))]
+fn read_frame(packet: &[u8], places: Places, id: &[u8], password: &[u8]) -> Result<Block, Refusal>
     requires { Stands packet.now places }
-    ensures { result ≡ response_as (first_refusal response_refusals (frame_of packet.now)) (places_of packet.now) }
+    ensures { result ≡ response_as (first_refusal frame_refusals (received (read_call packet.now id.now password.now))) (places_of packet.now) }
 {
-    let function = places.function;
-    let Check::Passed = check_function(packet[function]) else {
-        return Response::Refused(9);
-    };
-    let block = places.block;
-    let end = places.end;
-    let Check::Passed = check_block(&packet[block..end]) else {
-        return Response::Refused(10);
-    };
-    Response::Accepted { block, end }
-}
-
-// Judges a response to a request that asked for `id` and sent `password`.
-pub fn read(packet: &[u8], id: &[u8], password: &[u8]) -> Response
-    ensures { result ≡ response_of (read_call packet.now id.now password.now) }
-{
-    let Check::Passed = super::check_id(id) else {
-        return Response::Refused(40);
-    };
-    let Check::Passed = super::check_password(password) else {
-        return Response::Refused(21);
-    };
-    let parsed = framing::read(packet);
-    let Parsed::Frame(places) = parsed else {
-        return Response::Refused(framing::refusal_number(parsed));
-    };
     let start = places.id;
     let end = start + framing::ID_SIZE;
     let Check::Passed = check_same_id(id, &packet[start..end]) else {
-        return Response::Refused(7);
+        return Err(Refusal::OtherId);
     };
-    let first = places.password;
-    let function = places.function;
-    let Check::Passed = check_same_password(password, &packet[first..function]) else {
-        return Response::Refused(8);
+    let Check::Passed = check_same_password(password, &packet[places.password..places.function])
+    else {
+        return Err(Refusal::OtherPassword);
     };
-    read_block(packet, places)
+    kinds::read_block::<Responses>(packet, places)
+}
+
+// Judges a response to a request that asked for `id` and sent `password`.
+#[tactic(auto, unfolding(crate::specs::Response::read_refusal, crate::specs::Response::read_refusals, framing::specs::Refusal::first_refusal))]
+pub fn read(packet: &[u8], id: &[u8], password: &[u8]) -> Result<Block, Refusal>
+    ensures { result ≡ response_of (read_call packet.now id.now password.now) }
+{
+    let Check::Passed = super::check_id(id) else {
+        return Err(Refusal::ExpectedId);
+    };
+    let Check::Passed = super::check_password(password) else {
+        return Err(Refusal::BadPassword);
+    };
+    let places = framing::read(packet)?;
+    read_frame(packet, places, id, password)
 }
 
 // Judges a response of which ID and password are taken as they are.
-pub fn read_any(packet: &[u8]) -> Response
+#[tactic(auto, unfolding(crate::specs::Response::any_response_refusal, crate::specs::Response::any_response_refusals, crate::specs::Response::response_refusals))]
+pub fn read_any(packet: &[u8]) -> Result<Block, Refusal>
     ensures { result ≡ any_response_of packet.now }
 {
-    let parsed = framing::read(packet);
-    let Parsed::Frame(places) = parsed else {
-        return Response::Refused(framing::refusal_number(parsed));
-    };
-    read_block(packet, places)
+    kinds::read_any::<Responses>(packet)
 }

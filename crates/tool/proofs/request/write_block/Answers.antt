@@ -12,11 +12,11 @@ loop-i-init c =
 pub returns-in_default : goal.returns-in_default
 returns-in_default c =
     let args = c.args in
-    no_block _ args.block.now _ (not_written c.args.functions.now c.args.numbers.now c.args.lengths.now c.loop-i.left.now c.loop-i.i (omega arith) c.requires c.loop-i.invariant c.from-length.ensures c.first_bytes-value.ensures c.write_command.ensures args.block.now refl c.in_default.not-Until)
+    no_block _ args.block.now _ (not_written c.args.functions.now c.args.numbers.now c.args.lengths.now c.loop-i.left.now c.loop-i.i (omega arith) c.requires c.loop-i.invariant c.from-length.ensures c.first_bytes.ensures c.write_command.ensures args.block.now refl c.in_default.not-Ok)
 
 pub loop-i-preserved : goal.loop-i-preserved
 loop-i-preserved c =
-    rw c.bytes_after-left.ensures (written c.args.functions.now c.args.numbers.now c.args.lengths.now c.loop-i.left.now c.loop-i.i (omega arith) c.requires c.loop-i.invariant c.from-length.ensures c.first_bytes-value.ensures c.write_command.ensures c.in-Until.is)
+    rw c.bytes_after-left.ensures (written c.args.functions.now c.args.numbers.now c.args.lengths.now c.loop-i.left.now c.loop-i.i (omega arith) c.requires c.loop-i.invariant c.from-length.ensures c.first_bytes.ensures c.write_command.ensures c.in-Ok.is)
 
 pub returns : goal.returns
 returns c =
