@@ -1,16 +1,14 @@
 -- `tool::request::write` meets its contract: each check decides its row of the list of refusals, or leaves the answer to those after it.
-use Prim.Native.Nat.{ℕ}
 use mathlib.Core.Bool.{false, not}
-use mathlib.Core.Path.{◌≡◌, refl, ◌∙◌}
+use mathlib.Core.Path.{◌≡◌, refl}
 use borrow.Author.Tests.{not-false}
-use lib.ListN.{drop}
 use Rattle.framing.specs.Refusal.{first_refusal}
-use Rattle.framing.proofs.Refusals.{passed, left_after, ends_here}
+use Rattle.framing.proofs.Refusals.{passed}
 use Rattle.tool.specs.Checks.{wrong_id, wrong_password}
 use Rattle.tool.specs.CommandList.{describes_list}
 use Rattle.tool.specs.Request.{WriteCall, write_call, commands_of, small_buffer, not_encodable, write_refusals, write_refusal}
 use Rattle.tool.proofs.CommandLists.{counts_equal}
-use Rattle.tool.proofs.Writing.{Judged, none_told, refused_as, long_refused, written_as, not_written_as}
+use Rattle.tool.proofs.Writing.{Judged, none_told, long_refused, written_as, not_written_as}
 use Rattle.tool.proofs.request.write.Goals as goal
 
 -- what five passed checks tell
