@@ -10,6 +10,7 @@ use lib.Dec.{eqb-suc-zero}
 use lib.ListN.{length, take, drop, get_or, length-append, length-drop, take-append-drop}
 use lib.Seq.{length-take-le}
 use Rattle.octets.proofs.Same.{same_equal}
+use Rattle.refusals.specs.declared.Refusal.{Refusal}
 use Rattle.framing.specs.Refusal.{first_refusal}
 use Rattle.block.specs.Reading.{part_of}
 use Rattle.block.proofs.Parts.{between_parts, between_last}
@@ -113,14 +114,14 @@ module _ (text : List ℕ) where
   rest_same : (line : ℕ) → import_text line rest ≡ import_text line (part_of (rest_size text) 0 text)
   rest_same line = ap (import_text line) (sym (rest_part (line_size text + 2) text))
 
-  opened_by : (by : Option ℕ) → or_refused by 1 (import_text 2 rest) ≡ import_opened import_text text (opened_as by text)
+  opened_by : (by : Option Refusal) → or_refused by 1 (import_text 2 rest) ≡ import_opened import_text text (opened_as by text)
   opened_by none = rest_same 2
-  opened_by (some number) = refl
+  opened_by (some refusal) = refl
 
   row_by :
-      (line : ℕ) → line < line_limit → (by : Option ℕ) → first_refusal line_refusals first ≡ by
+      (line : ℕ) → line < line_limit → (by : Option Refusal) → first_refusal line_refusals first ≡ by
       → or_refused by line (row (row_from fields) (import_text (line + 1) rest)) ≡ import_after import_text text (next_as by text line)
-  row_by line h (some number) e = refl
+  row_by line h (some refusal) e = refl
   row_by line h none e =
       let right : Passed first = passed first e in
       let next : line + 1 ≡ line_after line = rw (lt-ltb line line_limit h) in

@@ -2,76 +2,63 @@
 use Prim.Native.Nat.{ℕ, suc, ◌+◌, ◌-◌, ◌<◌, ◌≤◌}
 use native.Mathlib.Numerals.{add-one}
 use native.Mathlib.Omega.{arith}
-use mathlib.Core.Bool.{Bool, true, false, cond, ◌&&◌}
+use mathlib.Core.Bool.{Bool, true, false, cond, ◌&&◌, and-false}
 use mathlib.Core.List.{List, [], ◌∷◌}
 use mathlib.Core.Path.{◌≡◌, refl, sym, ap, ◌∙◌}
+use borrow.Author.Tests.{eq-eqb, ne_eqb}
 use lib.Dec.{eqb}
-use lib.ListN.{length, drop, get_or, length-drop}
-use lib.Seq.{drop-cons, drop-drop, get_or-drop}
-use Rattle.tables.specs.Fields.{quote}
+use lib.ListN.{length, drop, get_or, drop_of_length-le}
+use lib.Seq.{drop-cons, get_or-drop}
 use Rattle.octets.proofs.Booleans.{both_true}
 use Rattle.tables.specs.Lines.{ends_here, line_size}
 use Rattle.importing.specs.Splitting.{field_size, size_behind}
 
-pub no_line : line_size [] ≡ 0
-unfolding line_size
-no_line = refl
-
-pub no_field : field_size [] ≡ 0
+pub no_field : (l : List ℕ) → length l ≡ 0 → field_size l ≡ 0
 unfolding field_size
-no_field = refl
+no_field [] h = refl
+no_field (c ∷ s) h = absurd (omega arith)
 
-behind_other : (s : List ℕ) → eqb (get_or s 0 0) quote ≡ false → size_behind s ≡ 0
-unfolding size_behind
-behind_other [] e = refl
-behind_other (c ∷ s) e = rw e
+-- a field, from its first byte on: another byte than a quote, a doubled quote, and a quote that ends it
+pub field_goes_on : (l : List ℕ) → 1 ≤ length l → (get_or l 0 0 ≡ 0x22 → ⊥) → field_size l ≡ 1 + field_size (drop 1 l)
+unfolding field_size
+field_goes_on [] h e = absurd (omega arith)
+field_goes_on (c ∷ s) h e = rw (ne_eqb c 0x22 e) (omega arith)
 
-behind_quote : (s : List ℕ) → eqb (get_or s 0 0) quote ≡ true → (size_behind s ≡ suc (suc (field_size (drop 1 s)))) × (1 ≤ length s)
-unfolding size_behind
-behind_quote [] e = ((cc), let impossible : ◌≡◌ {A = ℕ} 0 1 = cc in absurd (omega arith))
-behind_quote (c ∷ s) e = (rw e, omega arith)
+pub quote_doubled : (l : List ℕ) → 2 ≤ length l → get_or l 0 0 ≡ 0x22 → get_or l 1 0 ≡ 0x22 → field_size l ≡ 2 + field_size (drop 2 l)
+unfolding field_size size_behind
+quote_doubled [] h e d = absurd (omega arith)
+quote_doubled (c ∷ []) h e d = absurd (omega arith)
+quote_doubled (c ∷ other ∷ s) h e d = rw (eq-eqb c 0x22 e, eq-eqb other 0x22 d) (omega arith)
 
-module _ (text : List ℕ) (at : ℕ) (h : at < length text) where
-  abbrev first : ℕ
-  first = get_or text at 0
+pub field_ends : (l : List ℕ) → 1 ≤ length l → get_or l 0 0 ≡ 0x22 → (get_or l 1 0 ≡ 0x22 → ⊥) → field_size l ≡ 0
+unfolding field_size size_behind
+field_ends [] h e d = absurd (omega arith)
+field_ends (c ∷ []) h e d = rw (eq-eqb c 0x22 e)
+field_ends (c ∷ other ∷ s) h e d = rw (eq-eqb c 0x22 e, ne_eqb other 0x22 d)
+
+-- a line, from a place on: no byte, CR LF, and another first or second byte
+module _ (text : List ℕ) (at : ℕ) where
+  pub no_line : length text ≤ at → line_size (drop at text) ≡ 0
+  unfolding line_size
+  no_line h = rw (drop_of_length-le text h)
 
   second : get_or (drop (suc at) text) 0 0 ≡ get_or text (at + 1) 0
   second = get_or-drop (suc at) text 0 0 ∙ ap (λ (n : ℕ). get_or text n 0) (omega arith)
 
-  -- whether CR LF stands at a place
-  abbrev ends_at : Bool
-  ends_at = eqb first 0x0D && eqb (get_or text (at + 1) 0) 0x0A
-
-  line_at : line_size (drop at text) ≡ cond ends_at 0 (suc (line_size (drop (at + 1) text)))
+  line_at : at < length text → line_size (drop at text) ≡ cond (eqb (get_or text at 0) 0x0D && eqb (get_or text (at + 1) 0) 0x0A) 0 (suc (line_size (drop (at + 1) text)))
   unfolding line_size
-  line_at =
+  line_at h =
       ap line_size (drop-cons text at 0 h)
-      ∙ λ i. cond (eqb first 0x0D && eqb (second i) 0x0A) 0 (suc (line_size (drop (sym (add-one at) i) text)))
+      ∙ λ i. cond (eqb (get_or text at 0) 0x0D && eqb (second i) 0x0A) 0 (suc (line_size (drop (sym (add-one at) i) text)))
 
-  pub line_ends : ends_at ≡ true → line_size (drop at text) ≡ 0
-  line_ends e = line_at ∙ rw e
+  pub line_ends : at < length text → get_or text at 0 ≡ 0x0D → get_or text (at + 1) 0 ≡ 0x0A → line_size (drop at text) ≡ 0
+  line_ends h cr lf = line_at h ∙ rw (eq-eqb _ _ cr, eq-eqb _ _ lf)
 
-  pub line_goes_on : ends_at ≡ false → line_size (drop at text) ≡ suc (line_size (drop (at + 1) text))
-  line_goes_on e = line_at ∙ rw e
+  pub other_first : at < length text → (get_or text at 0 ≡ 0x0D → ⊥) → line_size (drop at text) ≡ suc (line_size (drop (at + 1) text))
+  other_first h other = line_at h ∙ rw (ne_eqb _ _ other)
 
-  -- a field: another byte than a quote, a quote, and a doubled one
-  pub field_goes_on : eqb first quote ≡ false → field_size (drop at text) ≡ suc (field_size (drop (at + 1) text))
-  unfolding field_size
-  field_goes_on e = rw (drop-cons text at 0, e, add-one)
-
-  module _ (quoted : eqb first quote ≡ true) where
-    behind : field_size (drop at text) ≡ size_behind (drop (suc at) text)
-    unfolding field_size
-    behind = rw (drop-cons text at 0, quoted)
-
-    pub field_ends : eqb (get_or text (at + 1) 0) quote ≡ false → field_size (drop at text) ≡ 0
-    field_ends e = behind ∙ behind_other (drop (suc at) text) (ap (λ (c : ℕ). eqb c quote) second ∙ e)
-
-    pub quote_doubled : eqb (get_or text (at + 1) 0) quote ≡ true → (field_size (drop at text) ≡ suc (suc (field_size (drop (at + 1 + 1) text)))) × (at + 1 < length text)
-    quote_doubled e =
-        let two = behind_quote (drop (suc at) text) (ap (λ (c : ℕ). eqb c quote) second ∙ e) in
-        let after : suc at + 1 ≡ at + 1 + 1 = omega arith in
-        (behind ∙ two.0 ∙ ap (λ (s : List ℕ). suc (suc (field_size s))) (drop-drop 1 (suc at) text ∙ ap (λ (n : ℕ). drop n text) after), omega (arith, two.1, length-drop (suc at) text))
+  pub other_second : at < length text → (get_or text (at + 1) 0 ≡ 0x0A → ⊥) → line_size (drop at text) ≡ suc (line_size (drop (at + 1) text))
+  other_second h other = line_at h ∙ rw (ne_eqb _ _ other, and-false (eqb (get_or text at 0) 0x0D))
 
 -- a line is the whole text, or its CR LF stands behind it
 pub record Within (size whole : ℕ) : Type 0 where

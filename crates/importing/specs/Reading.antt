@@ -1,13 +1,16 @@
 -- Reading a table line by line: what the code answers.
-use Rattle.std.specs.Prelude.{ℕ, ◌+◌, ◌-◌, cond, List, [], ◌∷◌, ltb, eqb, length, drop, get_or}
+use Rattle.std.specs.Prelude.{ℕ, ◌+◌, ◌-◌, cond, Result, Ok, Err, List, [], ◌∷◌, ltb, eqb, length, drop, get_or}
 use Rattle.std.proofs.Math.Option.{Option, none, some}
+use Rattle.refusals.specs.Refusals.{number_of}
+use Rattle.refusals.specs.declared.Refusal.{Refusal}
+use Rattle.refusals.specs.declared.Refusal.TheVariants.{TableHeader}
 use Rattle.framing.specs.Refusal.{first_refusal}
 use Rattle.block.specs.Reading.{part_of}
 use Rattle.tables.specs.Lines.{line_size, first_line}
 use Rattle.tables.specs.Rows.{row_of}
 use Rattle.tables.specs.Importing.{number_in, bytes_in, field_at, fields_in, header_refusals, line_refusals, report_of, Imported, end, refused, row}
-use Rattle.importing.specs.declared.reading.Opened.{Opened}
-use Rattle.importing.specs.declared.reading.Opened.TheVariants as opened
+use Rattle.importing.specs.declared.reading.Rest.{Rest}
+use Rattle.importing.specs.declared.reading.RefusedLine.{RefusedLine}
 use Rattle.importing.specs.declared.reading.NextRow.{NextRow}
 use Rattle.importing.specs.declared.reading.NextRow.TheVariants as next
 
@@ -24,15 +27,18 @@ abbrev pub rest_size : List ℕ → ℕ
 rest_size text = length text - (line_size text + 2)
 
 -- 60 where there is no line
-abbrev pub header_refusal : List ℕ → Option ℕ
-header_refusal text = cond (eqb (length text) 0) (some 60) (first_refusal header_refusals (first_line text))
+abbrev pub header_refusal : List ℕ → Option Refusal
+header_refusal text = cond (eqb (length text) 0) (some TableHeader) (first_refusal header_refusals (first_line text))
+
+abbrev pub refused_line : Refusal → ℕ → RefusedLine
+refused_line refusal line = record { refusal = refusal; line = line }
 
 -- the answer of `open`: the header is line 1
-abbrev pub opened_as : Option ℕ → List ℕ → Opened
-opened_as none text = opened.Table (rest_size text) 2
-opened_as (some number) text = opened.Refused number 1
+abbrev pub opened_as : Option Refusal → List ℕ → Result Rest RefusedLine
+opened_as none text = Ok (record { rest = rest_size text; line = 2 })
+opened_as (some refusal) text = Err (refused_line refusal 1)
 
-abbrev pub opened_of : List ℕ → Opened
+abbrev pub opened_of : List ℕ → Result Rest RefusedLine
 opened_of text = opened_as (header_refusal text) text
 
 -- the answer of `next_row`, by the fields of the line: in front of the digits of the board stand a quote and an x, behind those of the
@@ -44,31 +50,34 @@ row_at fields text line =
     (length text - (line_size text - 1) + (length (field_at 4 fields) - 1))
     (length text - (line_size text - 1)) (rest_size text) (line_after line)
 
-abbrev pub next_as : Option ℕ → List ℕ → ℕ → NextRow
+abbrev pub refused_as : Refusal → ℕ → NextRow
+refused_as refusal line = next.Refused (refused_line refusal line)
+
+abbrev pub next_as : Option Refusal → List ℕ → ℕ → NextRow
 next_as none text line = row_at (fields_in (first_line text)) text line
-next_as (some number) text line = next.Refused number line
+next_as (some refusal) text line = refused_as refusal line
 
 abbrev pub next_row : List ℕ → ℕ → NextRow
 next_row text line = cond (eqb (length text) 0) next.End (next_as (first_refusal line_refusals (first_line text)) text line)
 
 -- the numbers of their refusals, 0 for none
-abbrev pub opened_number : Opened → ℕ
-opened_number (opened.Table rest line) = 0
-opened_number (opened.Refused number line) = number
+abbrev pub opened_number : Result Rest RefusedLine → ℕ
+opened_number (Ok table) = 0
+opened_number (Err r) = number_of r.refusal
 
 abbrev pub next_number : NextRow → ℕ
 next_number (next.Row board counter page low value value_end rest line) = 0
 next_number next.End = 0
-next_number (next.Refused number line) = number
+next_number (next.Refused r) = number_of r.refusal
 
 -- what is read from an answer on, given how the rest is read
 abbrev pub import_after : (ℕ → List ℕ → Imported) → List ℕ → NextRow → Imported
 import_after again text next.End = end
-import_after again text (next.Refused number line) = refused number line
+import_after again text (next.Refused r) = refused r.refusal r.line
 import_after again text (next.Row board counter page low value value_end rest line) =
     row (row_of (bytes_in (part_of board (board - 32) text)) 1 counter (report_of (page ∷ low ∷ []) (bytes_in (part_of value value_end text))))
     (again line (part_of rest 0 text))
 
-abbrev pub import_opened : (ℕ → List ℕ → Imported) → List ℕ → Opened → Imported
-import_opened again text (opened.Table rest line) = again line (part_of rest 0 text)
-import_opened again text (opened.Refused number line) = refused number line
+abbrev pub import_opened : (ℕ → List ℕ → Imported) → List ℕ → Result Rest RefusedLine → Imported
+import_opened again text (Ok table) = again table.line (part_of table.rest 0 text)
+import_opened again text (Err r) = refused r.refusal r.line

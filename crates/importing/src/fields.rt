@@ -15,20 +15,21 @@ pub(crate) enum FieldEnd {
 }
 
 // The bytes before the quote that ends a field, or all where none does.
+#[tactic(auto, using(crate::proofs::Sizes::no_field, crate::proofs::Sizes::field_goes_on, crate::proofs::Sizes::quote_doubled, crate::proofs::Sizes::field_ends))]
 fn field_size(bytes: &[u8]) -> usize
     ensures { result ≡ field_size bytes.now }
 {
-    let mut at: usize = 0;
-    while at < bytes.len() {
-        if bytes[at] == b'"' {
-            if octets::byte_at(bytes, at + 1) != b'"' {
-                return at;
-            }
-            at += 1;
+    let mut left = bytes;
+    while let Some(first) = left.first() {
+        if *first != b'"' {
+            left = octets::bytes_after(left, 1);
+        } else if octets::byte_at(left, 1) == b'"' {
+            left = octets::bytes_after(left, 2);
+        } else {
+            return bytes.len() - left.len();
         }
-        at += 1;
     }
-    at
+    bytes.len()
 }
 
 fn field_end(line: &[u8]) -> FieldEnd

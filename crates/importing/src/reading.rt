@@ -1,10 +1,11 @@
 // The header of a table, and its rows.
 ghost use Rattle.std.specs.Prelude.{◌≡◌};
 ghost use Rattle.tables.specs.Lines.{line_size};
-ghost use Rattle.importing.specs.Reading.{line_after, opened_of, next_row};
+ghost use Rattle.importing.specs.Reading.{line_after, opened_of, refused_as, next_row};
 
 use crate::forms::RowFields;
 use crate::{fields, forms};
+use refusals::Refusal;
 
 // The bytes of a line's CR LF.
 const END_SIZE: usize = 2;
@@ -12,13 +13,18 @@ const END_SIZE: usize = 2;
 // The fields of a row.
 const FIELDS: usize = 5;
 
-// The header of a table.
-#[derive(Clone, Copy)]
-pub enum Opened {
-    // It stands. So many bytes are left after it, and the next line has this number.
-    Table { rest: usize, line: u64 },
-    // The number of the refusal, and of its line.
-    Refused { number: u8, line: u64 },
+// So many bytes are left after the header of a table, and the next line has this number.
+#[derive(Clone, Copy, Debug, PartialEq, Eq)]
+pub struct Rest {
+    pub rest: usize,
+    pub line: u64,
+}
+
+// A refusal, and the number of its line.
+#[derive(Clone, Copy, Debug, PartialEq, Eq)]
+pub struct RefusedLine {
+    pub refusal: Refusal,
+    pub line: u64,
 }
 
 // What stands first in what is left of a table.
@@ -38,14 +44,11 @@ pub enum NextRow {
     },
     // No line is left.
     End,
-    // The number of the refusal, and of its line.
-    Refused {
-        number: u8,
-        line: u64,
-    },
+    Refused(RefusedLine),
 }
 
 // The bytes before the first CR LF, or all where there is none.
+#[tactic(auto, using(crate::proofs::Sizes::no_line, crate::proofs::Sizes::line_ends, crate::proofs::Sizes::other_first, crate::proofs::Sizes::other_second))]
 fn line_size(text: &[u8]) -> usize
     ensures { result ≡ line_size text.now }
 {
@@ -65,33 +68,39 @@ fn line_after(line: u64) -> u64
 }
 
 // The header of a table.
-pub fn open(text: &[u8]) -> Opened
+pub fn open(text: &[u8]) -> Result<Rest, RefusedLine>
     ensures { result ≡ opened_of text.now }
 {
     if text.len() == 0 {
-        return Opened::Refused {
-            number: 60,
+        return Err(RefusedLine {
+            refusal: Refusal::TableHeader,
             line: 1,
-        };
+        });
     }
     let size = line_size(text);
     let header = b"\"board\",\"direction\",\"counter\",\"number\",\"value\"";
     if !octets::equal(octets::first_bytes(text, size), header) {
-        return Opened::Refused {
-            number: 60,
+        return Err(RefusedLine {
+            refusal: Refusal::TableHeader,
             line: 1,
-        };
+        });
     }
     if size == text.len() {
-        return Opened::Refused {
-            number: 61,
+        return Err(RefusedLine {
+            refusal: Refusal::BadLine,
             line: 1,
-        };
+        });
     }
-    Opened::Table {
+    Ok(Rest {
         rest: text.len() - size - END_SIZE,
         line: 2,
-    }
+    })
+}
+
+fn refused(refusal: Refusal, line: u64) -> NextRow
+    ensures { result ≡ refused_as refusal line }
+{
+    NextRow::Refused(RefusedLine { refusal, line })
 }
 
 // The first row of what is left of a table, whose line has this number.
@@ -103,14 +112,14 @@ pub fn next_row(text: &[u8], line: u64) -> NextRow
     }
     let size = line_size(text);
     if size == text.len() {
-        return NextRow::Refused { number: 61, line };
+        return refused(Refusal::BadLine, line);
     }
     let row = octets::first_bytes(text, size);
     let Some(count) = fields::count_fields(row) else {
-        return NextRow::Refused { number: 61, line };
+        return refused(Refusal::BadLine, line);
     };
     if count != FIELDS {
-        return NextRow::Refused { number: 62, line };
+        return refused(Refusal::FieldCount, line);
     }
     let Some(
         RowFields {
@@ -121,7 +130,7 @@ pub fn next_row(text: &[u8], line: u64) -> NextRow
         },
     ) = forms::read_fields(row)
     else {
-        return NextRow::Refused { number: 63, line };
+        return refused(Refusal::BadField, line);
     };
     let value_end = text.len() - (size - 1);
     NextRow::Row {

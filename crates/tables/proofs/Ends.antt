@@ -1,14 +1,12 @@
 -- The lines behind a table.
 use Prim.Native.Nat.{ℕ, ◌+◌, ◌≤◌}
 use native.Mathlib.Omega.{arith}
-use mathlib.Core.Bool.{Bool}
-use mathlib.Core.List.{List, ◌++◌, append-nil}
+use mathlib.Core.List.{List, ◌++◌}
 use mathlib.Core.Path.{◌≡◌, sym, ap, ◌∙◌}
-use borrow.Author.Tests.{eq-eqb, ne_eqb}
+use borrow.Author.Tests.{ne_eqb}
 use lib.ListN.{length, take, length-append}
 use lib.Seq.{take_at}
-use Rattle.octets.specs.Octets.{overwrite, Overwrites}
-use Rattle.octets.proofs.Overwriting.{overwrites, overwrites_after}
+use Rattle.octets.specs.Octets.{overwrite}
 use Rattle.captures.proofs.Buffers.{both_put}
 use Rattle.numerals.specs.Numerals.{decimal}
 use Rattle.numerals.proofs.Decimals.{decimal_short}
@@ -21,30 +19,11 @@ line_size word number = omega (arith, length-append (word ++ decimal number) lin
 pub line_short : (word : List ℕ) (number : ℕ) → length (number_line word number) ≤ length word + 21
 line_short word number = omega (arith, line_size word number, decimal_short 20 number)
 
--- word and digits, and the line feed behind them
-pub line_put :
-    (text : List ℕ) (at : ℕ) (word : List ℕ) (number : ℕ) {size : ℕ} {digits between after : List ℕ} {a b : Bool} → at + length word + 21 ≤ length text
-    → size ≡ length (decimal number) → digits ≡ decimal number → Overwrites text at (word ++ digits) a between
-    → Overwrites between (at + length word + size) line_feed b after
-    → (at + length word + size + 1 ≡ at + length (number_line word number)) × (after ≡ overwrite text at (number_line word number))
-line_put text at word number {between = between} {a = a} room sized e first last =
-    let few = decimal_short 20 number in
-    let both : length (word ++ decimal number) ≡ length word + length (decimal number) = length-append word (decimal number) in
-    let put : Overwrites text at (word ++ decimal number) a between = rw e at first in (
-      omega (arith, line_size word number),
-      overwrites_after text at (word ++ decimal number) last (omega arith) (overwrites put (omega arith)) (omega arith),
-    )
-
 -- bytes put first are the first bytes
 pub first_bytes : (room text : List ℕ) {end : ℕ} {lines : List ℕ} → end ≡ length text → lines ≡ overwrite room 0 text → take end lines ≡ text
 first_bytes room text {end} e put = ap (take end) put ∙ take_at text _ end (sym e)
 
 module _ (room : List ℕ) (refused capture : ℕ) {end : ℕ} {lines : List ℕ} (ends : end ≡ 0 + length (refused_line refused)) (put : lines ≡ overwrite room 0 (refused_line refused)) where
-  pub one_line : capture ≡ 0 → take end lines ≡ last_lines refused capture
-  one_line e =
-      let size : end ≡ length (refused_line refused) = omega (arith, ends) in
-      first_bytes room (refused_line refused) size put ∙ sym (append-nil (refused_line refused)) ∙ rw (eq-eqb capture 0 e)
-
   pub two_lines :
       {last : ℕ} {after : List ℕ} → 58 ≤ length room → (capture ≡ 0 → ⊥) → last ≡ end + length (number_line capture_word capture)
       → after ≡ overwrite lines end (number_line capture_word capture) → take last after ≡ last_lines refused capture

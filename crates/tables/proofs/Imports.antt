@@ -11,6 +11,9 @@ use lib.ListN.{length, drop}
 use Rattle.octets.specs.Octets.{between, same}
 use Rattle.octets.proofs.Booleans.{both_true}
 use Rattle.octets.proofs.Same.{same_self}
+use Rattle.refusals.specs.declared.Refusal.{Refusal}
+use Rattle.refusals.specs.declared.Refusal.{Refusal}
+use Rattle.refusals.specs.declared.Refusal.TheVariants.{BadField, BadLine, FieldCount}
 use Rattle.framing.specs.Refusal.{first_refusal}
 use Rattle.block.specs.Command.{Report, held, unknown}
 use Rattle.block.specs.Reading.{is_some}
@@ -188,13 +191,13 @@ module _ (r : Row) (h : Exportable r) where
   row_read : row_from (fields_in line) ≡ r
   row_read = ap (λ (o : Option (List (List ℕ))). row_from (fields o)) split ∙ made_back
 
-  abbrev judged : Option (List (List ℕ)) → Option ℕ
+  abbrev judged : Option (List (List ℕ)) → Option Refusal
   judged o =
-      cond (not true || not (is_some o)) (some 61) (cond (not (eqb (length (fields o)) 5)) (some 62) (cond (not (in_form (fields o))) (some 63) none))
+      cond (not true || not (is_some o)) (some BadLine) (cond (not (eqb (length (fields o)) 5)) (some FieldCount) (cond (not (in_form (fields o))) (some BadField) none))
 
   not_refused : first_refusal line_refusals line ≡ none
   unfolding line_refusals first_refusal
-  not_refused = ap judged split ∙ ap (λ (t : Bool). cond (not t) (some 63) none) formed
+  not_refused = ap judged split ∙ ap (λ (t : Bool). cond (not t) (some BadField) none) formed
 
   pub row_back : (at : ℕ) (rest : List Line) → import_from at (line ∷ rest) ≡ row r (import_from (at + 1) rest)
   unfolding import_from
@@ -244,5 +247,5 @@ pub imports_exported : ImportsExported
 unfolding import_lines
 imports_exported rs h =
     ap import_lines (table_lines rs h)
-    ∙ ap (λ (o : Option ℕ). or_refused o 1 (import_from 2 (map (λ (r : Row). ended (row_fields r)) rs))) header_passes
+    ∙ ap (λ (o : Option Refusal). or_refused o 1 (import_from 2 (map (λ (r : Row). ended (row_fields r)) rs))) header_passes
     ∙ rows_back 2 rs h

@@ -11,6 +11,7 @@ use lib.Dec.{leb, ltb, eqb}
 use lib.ListN.{length, take, drop, get_or}
 use Rattle.octets.proofs.Booleans.{both_true, neither}
 use Rattle.octets.proofs.Same.{same_equal}
+use Rattle.refusals.specs.declared.Refusal.{Refusal}
 use Rattle.framing.specs.Refusal.{first_refusal}
 use Rattle.framing.proofs.Refusals.{not_refused}
 use Rattle.block.specs.Reading.{is_some}
@@ -240,10 +241,10 @@ first_kept text first e ended =
 
 module _ (text : List ℕ) (rest : Imported) (after : Kept (drop (line_size text + 2) text) rest) where
   row_kept :
-      (line : ℕ) (by : Option ℕ) → first_refusal line_refusals (first_line text) ≡ by
+      (line : ℕ) (by : Option Refusal) → first_refusal line_refusals (first_line text) ≡ by
       → Kept text (or_refused by line (row (row_from (fields_in (first_line text))) rest))
   unfolding rows_given is_whole row_lines AllExportable
-  row_kept line (some number) e = record { exportable = tt; table = λ h. let impossible : ◌≡◌ {A = ℕ} 0 1 = cc in absurd (omega arith) }
+  row_kept line (some refusal) e = record { exportable = tt; table = λ h. let impossible : ◌≡◌ {A = ℕ} 0 1 = cc in absurd (omega arith) }
   row_kept line none e =
       let right : Passed (first_line text) = passed (first_line text) e in
       let fields = fields_in (first_line text) in
@@ -270,10 +271,10 @@ kept line (c ∷ s) zero =
 -- the header, which is not refused, and the rows behind it
 module _ (text : List ℕ) (rest : Imported) (after : Kept (drop (line_size text + 2) text) rest) where
   table_kept :
-      (by : Option ℕ) → first_refusal header_refusals (first_line text) ≡ by
+      (by : Option Refusal) → first_refusal header_refusals (first_line text) ≡ by
       → AllExportable (rows_given (or_refused by 1 rest)) × (is_whole (or_refused by 1 rest) ≡ true → table_of (rows_given (or_refused by 1 rest)) ≡ text)
   unfolding rows_given is_whole AllExportable header_refusals
-  table_kept (some number) e = (tt, λ h. let impossible : ◌≡◌ {A = ℕ} 0 1 = cc in absurd (omega arith))
+  table_kept (some refusal) e = (tt, λ h. let impossible : ◌≡◌ {A = ℕ} 0 1 = cc in absurd (omega arith))
   table_kept none e =
       let header = not_refused _ _ (first_line text) e in
       let ended = not_refused _ _ (first_line text) header.1 in

@@ -34,7 +34,7 @@ pub records_exported : RecordsExported
 records_exported ids r =
     record {
       request = λ e. (rows_alone ids r ∙ rw e refl, counted_alone ids r ∙ rw e refl);
-      refused = λ number e f. (rows_alone ids r ∙ rw (e, f) refl, counted_alone ids r ∙ rw (e, f) refl);
+      refused = λ refusal e f. (rows_alone ids r ∙ rw (e, f) refl, counted_alone ids r ∙ rw (e, f) refl);
       accepted = λ reports e f g. (rows_alone ids r ∙ given ids r reports e f g, counted_alone ids r ∙ rw (e, f) refl);
     }
 

@@ -22,6 +22,7 @@ use Rattle.captures.specs.declared.Version.{Version}
 use Rattle.captures.proofs.Fields.{taken_small, dropped_small, field_small}
 use Rattle.captures.proofs.Ranges.{records_within}
 use Rattle.captures.proofs.Readings.{of_readings}
+use Rattle.refusals.specs.declared.Refusal.{Refusal}
 use Rattle.tool.specs.Response.{any_response_refusal, reports_of}
 use Rattle.tables.specs.Rows.{Row, row_of}
 use Rattle.tables.specs.Exporting.{is_response, id_of, reports_as, record_rows, rows_from, rows_of}
@@ -114,9 +115,9 @@ rows_exportable id direction counter [] each all = tt
 rows_exportable id direction counter (report ∷ reports) each all =
     (each report all.0, rows_exportable id direction counter reports each all.1)
 
-reports_sound : (packet : List ℕ) → Bytes packet → (refused : Option ℕ) (found : Option (List Report)) → reports_of packet ≡ found → AllReported (reports_as refused packet)
+reports_sound : (packet : List ℕ) → Bytes packet → (refused : Option Refusal) (found : Option (List Report)) → reports_of packet ≡ found → AllReported (reports_as refused packet)
 unfolding AllReported
-reports_sound packet small (some number) found e = tt
+reports_sound packet small (some refusal) found e = tt
 reports_sound packet small none none e = rw e tt
 reports_sound packet small none (some found) e =
     let places = places_of packet in
@@ -188,16 +189,16 @@ module _ (capture : List ℕ) (small : Bytes capture) where
   abbrev version : Version
   version = captures.version_of capture
 
-  ids_bytes : (refused : Option ℕ) → Bytes (captures.ids_as version refused capture)
+  ids_bytes : (refused : Option Refusal) → Bytes (captures.ids_as version refused capture)
   ids_bytes none = taken_small (16 * captures.board_count version capture) (drop (ids_at version) capture) (dropped_small (ids_at version) capture small)
-  ids_bytes (some number) = λ place. omega arith
+  ids_bytes (some refusal) = λ place. omega arith
 
-  from_bytes : (refused : Option ℕ) → FromBytes (captures.records_as version refused capture)
+  from_bytes : (refused : Option Refusal) → FromBytes (captures.records_as version refused capture)
   unfolding FromBytes
   from_bytes none =
       records_bytes_lem version (captures.board_count version capture) (drop (captures.records_at version capture) capture)
       (dropped_small (captures.records_at version capture) capture small)
-  from_bytes (some number) = tt
+  from_bytes (some refusal) = tt
 
 pub rows_of_exportable : RowsExportable
 rows_of_exportable capture small =

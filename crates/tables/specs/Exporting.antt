@@ -1,7 +1,10 @@
 -- The table of a capture: a row for each report of each accepted response.
-use Rattle.std.specs.Prelude.{ℕ, ◌+◌, ◌*◌, Bool, cond, ◌&&◌, List, [], ◌∷◌, ◌++◌, map, eqb, take, drop}
+use Rattle.std.specs.Prelude.{ℕ, ◌+◌, ◌*◌, Bool, cond, ◌&&◌, List, [], ◌∷◌, ◌++◌, map, Option as OptionInCode, eqb, take, drop}
 use Rattle.std.proofs.Math.Option.{Option, none, some, get_or}
+use Rattle.refusals.specs.declared.Refusal.{Refusal}
 use Rattle.block.specs.Command.{Report}
+use Rattle.refusals.specs.Refusals.{number_or_zero}
+use Rattle.framing.specs.Refusal.{in_code}
 use Rattle.block.specs.Reading.{is_some}
 use Rattle.captures.specs.Form.{Record}
 use Rattle.captures.specs.Reading.{ids_in, records_in, capture_refusal}
@@ -16,9 +19,9 @@ abbrev pub id_of : List ℕ → ℕ → List ℕ
 id_of ids index = take 16 (drop (16 * index) ids)
 
 -- the reports of a response as the listing reads it; none where it is refused
-abbrev pub reports_as : Option ℕ → List ℕ → List Report
+abbrev pub reports_as : Option Refusal → List ℕ → List Report
 reports_as none packet = get_or (reports_of packet) []
-reports_as (some number) packet = []
+reports_as (some refusal) packet = []
 
 abbrev pub reports_in : Record → List Report
 reports_in r = cond (is_response r) (reports_as (any_response_refusal r.packet) r.packet) []
@@ -49,6 +52,9 @@ export_of capture = table_of (rows_of capture)
 abbrev pub refused_in : List ℕ → ℕ
 refused_in capture = refused_count (records_in capture)
 
--- the number of the capture's refusal, 0 for none
+-- the capture's refusal, and its number, 0 for none
+abbrev pub capture_told : List ℕ → OptionInCode Refusal
+capture_told capture = in_code (capture_refusal capture)
+
 abbrev pub capture_number : List ℕ → ℕ
-capture_number capture = get_or (capture_refusal capture) 0
+capture_number capture = number_or_zero (capture_told capture)

@@ -4,7 +4,9 @@ use Rattle.std.proofs.Math.Option
 use Rattle.std.proofs.Math.Option.{Option, none, some}
 use Rattle.std.specs.List.{list_all}
 use Rattle.octets.specs.Octets.{between, same}
-use Rattle.framing.specs.Refusal.{Refusal, refusal, first_refusal}
+use Rattle.framing.specs.Refusal.{Rule, rule, first_refusal}
+use Rattle.refusals.specs.declared.Refusal.{Refusal}
+use Rattle.refusals.specs.declared.Refusal.TheVariants.{BadField, BadLine, FieldCount, TableHeader}
 use Rattle.block.specs.Command.{Report, held, unknown}
 use Rattle.block.specs.Reading.{is_some}
 use Rattle.numerals.specs.Numerals.{decimal, number_from}
@@ -89,16 +91,16 @@ in_form fields =
 abbrev pub wrong_form : Line → Bool
 wrong_form l = not (in_form (fields_in l))
 
-unfoldable pub line_refusals : List (Refusal Line)
-line_refusals = refusal 61 wrong_quoting ∷ refusal 62 wrong_count ∷ refusal 63 wrong_form ∷ []
+unfoldable pub line_refusals : List (Rule Line)
+line_refusals = rule BadLine wrong_quoting ∷ rule FieldCount wrong_count ∷ rule BadField wrong_form ∷ []
 
 -- 60: a header that differs
 abbrev pub other_header : Line → Bool
 other_header l = not (same l.text (quoted header_fields))
 
 -- and 61 for its line end
-unfoldable pub header_refusals : List (Refusal Line)
-header_refusals = refusal 60 other_header ∷ refusal 61 (λ (l : Line). not l.ended) ∷ []
+unfoldable pub header_refusals : List (Rule Line)
+header_refusals = rule TableHeader other_header ∷ rule BadLine (λ (l : Line). not l.ended) ∷ []
 
 -- no value byte stands for an unknown parameter
 abbrev pub report_of : List ℕ → List ℕ → Report
@@ -111,15 +113,15 @@ row_from fields =
     row_of (bytes_in (drop 1 (field_at 0 fields))) (number_in (field_at 1 fields)) (number_in (field_at 2 fields))
     (report_of (bytes_in (drop 2 (field_at 3 fields))) (bytes_in (drop 1 (field_at 4 fields))))
 
--- what is read: the rows in order, up to the end or to a refusal, by its number and the number of its line
+-- what is read: the rows in order, up to the end or to a refusal and the number of its line
 pub data Imported : Type 0 where
   end : Imported
-  refused : ℕ → ℕ → Imported
+  refused : Refusal → ℕ → Imported
   row : Row → Imported → Imported
 
-abbrev pub or_refused : Option ℕ → ℕ → Imported → Imported
+abbrev pub or_refused : Option Refusal → ℕ → Imported → Imported
 or_refused none line after = after
-or_refused (some number) line after = refused number line
+or_refused (some refusal) line after = refused refusal line
 
 -- lines from this number on
 unfoldable pub import_from : ℕ → List Line → Imported
@@ -128,7 +130,7 @@ import_from line (l ∷ ls) = or_refused (first_refusal line_refusals l) line (r
 
 -- the header is line 1; 60 where it is missing
 unfoldable pub import_lines : List Line → Imported
-import_lines [] = refused 60 1
+import_lines [] = refused TableHeader 1
 import_lines (l ∷ ls) = or_refused (first_refusal header_refusals l) 1 (import_from 2 ls)
 
 abbrev pub import_of : List ℕ → Imported
@@ -137,10 +139,10 @@ import_of text = import_lines (lines text)
 -- the rows before the end or the refusal
 unfoldable pub rows_given : Imported → List Row
 rows_given end = []
-rows_given (refused number line) = []
+rows_given (refused refusal line) = []
 rows_given (row r after) = r ∷ rows_given after
 
 unfoldable pub is_whole : Imported → Bool
 is_whole end = true
-is_whole (refused number line) = false
+is_whole (refused refusal line) = false
 is_whole (row r after) = is_whole after

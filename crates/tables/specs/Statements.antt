@@ -1,6 +1,7 @@
 -- What holds of tables, beside the contracts of the code that writes and reads them.
 use Rattle.std.specs.Prelude.{ℕ, ◌+◌, ◌*◌, ◌<◌, ◌≤◌, true, false, List, [], ◌∷◌, ◌++◌, map, ◌≡◌, length, take, drop}
 use Rattle.std.proofs.Math.Option.{none, some}
+use Rattle.refusals.specs.declared.Refusal.{Refusal}
 use Rattle.block.specs.Command.{Report, held, unknown}
 use Rattle.captures.specs.Form.{Record}
 use Rattle.captures.specs.Numbers.{Bytes}
@@ -38,7 +39,7 @@ all_rows (r ∷ rs) = row r (all_rows rs)
 pub record Exported (ids : List ℕ) (r : Record) : Type 0 where
   pub request : is_response r ≡ false → (rows_from ids (r ∷ []) ≡ []) × (refused_count (r ∷ []) ≡ 0)
   pub refused :
-      (number : ℕ) → is_response r ≡ true → any_response_refusal r.packet ≡ some number
+      (refusal : Refusal) → is_response r ≡ true → any_response_refusal r.packet ≡ some refusal
       → (rows_from ids (r ∷ []) ≡ []) × (refused_count (r ∷ []) ≡ 1)
   pub accepted :
       (reports : List Report) → is_response r ≡ true → any_response_refusal r.packet ≡ none → reports_of r.packet ≡ some reports
@@ -86,7 +87,7 @@ ImportsInForm = (text : List ℕ) → InForm text
 -- the line of the refusal; 0 where there is none
 unfoldable pub line_of_refusal : Imported → ℕ
 line_of_refusal end = 0
-line_of_refusal (refused number line) = line
+line_of_refusal (refused refusal line) = line
 line_of_refusal (row r after) = line_of_refusal after
 
 -- from a line on, the line that is refused comes after one line for each row before it

@@ -25,11 +25,10 @@ fn put_line(text: &mut [u8], at: usize, word: &[u8], number: u64) -> usize
     ensures value { result ≡ at + length (number_line word.now number) }
     ensures text_after { text.new ≡ overwrite text.old at (number_line word.now number) }
 {
-    let digits = numerals::decimal(number);
-    let bytes = digits.bytes;
-    let start = digits.start;
-    octets::overwrite_pair(text, at, word, &bytes[start..]);
-    let end = at + word.len() + (numerals::DIGITS - start);
+    let numeral = numerals::decimal(number);
+    let digits = numeral.text();
+    octets::overwrite_pair(text, at, word, digits);
+    let end = at + word.len() + digits.len();
     octets::overwrite(text, end, b"\n");
     end + 1
 }

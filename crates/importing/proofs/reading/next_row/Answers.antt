@@ -87,19 +87,21 @@ module _ (text : List ℕ) {size : ℕ} (sized : size ≡ line_size text) where
               }
 
 pub returns-then-size-text : goal.returns-then-size-text
-returns-then-size-text c = sym (row_open c.args.text.now c.args.line c.if-text-eq0.false (omega (arith, c.line_size-size.ensures)))
+returns-then-size-text c = c.refused.ensures ∙ sym (row_open c.args.text.now c.args.line c.if-text-eq0.false (omega (arith, c.line_size-size.ensures)))
 
 pub returns-in_default : goal.returns-in_default
 returns-in_default c =
     let text = c.args.text.now in
-    sym
+    c.refused-in_default.ensures
+    ∙ sym
     (row_unquoted text c.args.line c.if-text-eq0.false (inside text c.line_size-size.ensures c.if-size-text.false)
     (unquoted text c.line_size-size.ensures c.first_bytes-row.ensures c.count_fields.ensures c.in_default.is))
 
 pub returns-then-count-ne-FIELDS : goal.returns-then-count-ne-FIELDS
 returns-then-count-ne-FIELDS c =
     let text = c.args.text.now in
-    sym
+    c.refused-then-count-ne-FIELDS.ensures
+    ∙ sym
     (row_count text c.args.line c.if-text-eq0.false (inside text c.line_size-size.ensures c.if-size-text.false)
     (found text c.line_size-size.ensures c.first_bytes-row.ensures c.count_fields.ensures c.in-Some.is)
     (λ e. c.if-count-ne-FIELDS.true ((fields_told text c.line_size-size.ensures c.first_bytes-row.ensures c.count_fields.ensures c.in-Some.is).1 ∙ e)))
@@ -107,7 +109,8 @@ returns-then-count-ne-FIELDS c =
 pub returns-in_default-read_fields : goal.returns-in_default-read_fields
 returns-in_default-read_fields c =
     let text = c.args.text.now in
-    sym
+    c.refused-in_default-read_fields.ensures
+    ∙ sym
     (row_form text c.args.line c.if-text-eq0.false (inside text c.line_size-size.ensures c.if-size-text.false)
     (found text c.line_size-size.ensures c.first_bytes-row.ensures c.count_fields.ensures c.in-Some.is)
     (five text c.line_size-size.ensures c.first_bytes-row.ensures c.count_fields.ensures c.in-Some.is c.if-count-ne-FIELDS.false)

@@ -8,7 +8,7 @@ use Rattle.octets.specs.Octets.{same}
 use Rattle.tables.specs.Fields.{quoted}
 use Rattle.tables.specs.Lines.{line_size}
 use Rattle.tables.specs.Rows.{header_fields}
-use Rattle.importing.specs.declared.reading.Opened.TheVariants as opened
+use Rattle.std.specs.Prelude.{Ok}
 use Rattle.importing.proofs.Sizes.{line_within, left_behind}
 use Rattle.importing.proofs.Headers.{header_differs, header_open, header_right}
 use Rattle.importing.proofs.reading.open.Goals as goal
@@ -52,5 +52,5 @@ unfolding quoted
 returns c =
     let text = c.args.text.now in
     let size = c.line_size-size.ensures in
-    ap (λ (n : ℕ). opened.Table n 2) (left_behind (length text) size)
+    ap (λ (n : ℕ). Ok record { rest = n; line = 2 }) (left_behind (length text) size)
     ∙ sym (header_right text c.if-text-eq0.false (compared text size c.first_bytes.ensures c.equal.ensures ∙ c.if-not-equal.false) (behind text size c.if-size-text.false).0)
