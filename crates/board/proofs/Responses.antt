@@ -4,7 +4,8 @@ use native.Mathlib.Nat.{zero-add}
 use native.Mathlib.Omega.{arith}
 use mathlib.Core.Bool.{Bool, true, false, cond, not, ◌&&◌, ◌||◌}
 use mathlib.Core.List.{List, [], ◌∷◌, ◌++◌}
-use mathlib.Core.Option.{Option, none, some, or_else, get_or}
+use mathlib.Core.Option.{Option as Maybe, none, some, or_else, get_or}
+use Rattle.std.specs.Prelude.{Option, None, Some}
 use mathlib.Core.Path.{◌≡◌, refl, sym, ap, ◌∙◌}
 use borrow.Author.Tests.{leb-false, ltb-true, ltb-false, eqb-true, le-leb, lt-leb, lt-ltb, le-ltb, eq-eqb, ne_eqb, not-false}
 use lib.Dec.{leb, ltb, eqb}
@@ -14,7 +15,9 @@ use Rattle.octets.specs.Octets.{overwrite, fits}
 use Rattle.octets.proofs.Booleans.{both_true}
 use Rattle.framing.specs.Frame.{Frame, frame, packet_of, packet_length}
 use Rattle.framing.specs.Packet.{writable}
-use Rattle.framing.specs.Refusal.{refusal, first_refusal}
+use Rattle.framing.specs.Refusal.{rule, first_refusal}
+use Rattle.refusals.specs.declared.Refusal.{Refusal}
+use Rattle.refusals.specs.declared.Refusal.TheVariants.{LongResponse}
 use Rattle.framing.proofs.Refusals.{not_refused, first_of_joined}
 use Rattle.framing.proofs.Writing.{length_packet}
 use Rattle.block.specs.Command.{Command, command_number, is_read, Report, held, unknown, report_page}
@@ -29,7 +32,7 @@ use Rattle.rows.proofs.Found.{identity_known}
 use Rattle.store.specs.Sound as stored
 use Rattle.board.specs.Answering.{answered, answered_as, judged_by, refused_with, request_checks, responded_with, responded, scope_of}
 use Rattle.model.specs.Commands.{after_command, reported, run, run_reports, discovered, discover_reports}
-use Rattle.commands.specs.Draft.{blank, taken, extended, exceeded, reported_in, run_reports_in, selected, run_result, run_from}
+use Rattle.commands.specs.Draft.{blank, taken, extended, reported_in, run_reports_in, selected, run_result, run_from}
 use Rattle.model.specs.Record.{sound, is_unit, unit_type, unit_of, with_parameters}
 use Rattle.model.specs.Conditions.{other_than_reads}
 use Rattle.model.specs.Step.{Request, is_discovery, decoded, reports_of, malformed, long_response, request_refusals, Outcome, outcome_of, next_board, answer_with, outcome_by}
@@ -139,16 +142,16 @@ answer_as (first ∷ rest) next r buffer = sending next r (encode_reports 0 (fir
 
 abbrev responding : List Report → Board → Request → List ℕ → Outcome
 responding reports next r buffer =
-    cond (ltb 256 (packet_length (sent r (encode_reports 0 reports)))) (refused_with 12 r buffer) (answer_as reports next r buffer)
+    cond (ltb 256 (packet_length (sent r (encode_reports 0 reports)))) (refused_with LongResponse r buffer) (answer_as reports next r buffer)
 
 -- what the code makes of a block of this length
 abbrev writing : ℕ → List ℕ → Board → Request → List ℕ → Outcome
 writing size block next r buffer =
-    cond (eqb size 0) (outcome_of next Silence buffer) (cond (writable (sent r block) buffer) (sending next r block buffer) (refused_with 12 r buffer))
+    cond (eqb size 0) (outcome_of next Silence buffer) (cond (writable (sent r block) buffer) (sending next r block buffer) (refused_with LongResponse r buffer))
 
--- and what it has after the commands: their reports, or the parameters as they were
-abbrev ran_for : Bool → List Report → Parameters → Request → RunResult
-ran_for fit reports next r = cond fit (run_result next (extended blank reports)) (run_result r.board.parameters (exceeded blank))
+-- and what it has after the commands, where their reports have room
+abbrev ran_for : Bool → List Report → Parameters → Option RunResult
+ran_for fit reports next = cond fit (Some (run_result next (extended blank reports))) None
 
 taken_blank : (reports : List Report) → every encodable_report reports ≡ true → taken blank reports ≡ leb (length (encode_reports 0 reports)) 232
 taken_blank reports encodable = λ i. encodable i && leb (zero-add (length (encode_reports 0 reports)) i) (length-replicate {A = ℕ} 232 0 i)
@@ -156,7 +159,7 @@ taken_blank reports encodable = λ i. encodable i && leb (zero-add (length (enco
 written_block : (bytes : List ℕ) → take (0 + length bytes) (overwrite (replicate 232 0) 0 bytes) ≡ bytes
 written_block bytes = take_at bytes (drop (0 + length bytes) (replicate 232 0)) (0 + length bytes) (sym (zero-add (length bytes)))
 
-some_commands : (o : Option (List Command)) → not (is_some o) ≡ false → (cs : List Command) × (o ≡ some cs)
+some_commands : (o : Maybe (List Command)) → not (is_some o) ≡ false → (cs : List Command) × (o ≡ some cs)
 some_commands none h = let impossible : ◌≡◌ {A = ℕ} 0 1 = cc in absurd (omega arith)
 some_commands (some cs) h = (cs, refl)
 
@@ -180,12 +183,12 @@ module _ (r : Request) (buffer : List ℕ) (legal : sound r.board ≡ true) (sho
       let bytes : List ℕ = encode_reports 0 (first ∷ rest) in
       let some : eqb (length bytes) 0 ≡ false = ne_eqb (length bytes) 0 (λ (e : length bytes ≡ 0). omega (arith, some_bytes 0 first rest)) in
       let goes = writable_by bytes (ltb 256 (packet_length (sent r bytes))) refl in
-      (λ i. cond (some i) (outcome_of next Silence buffer) (cond (goes i) (sending next r bytes buffer) (refused_with 12 r buffer)))
+      (λ i. cond (some i) (outcome_of next Silence buffer) (cond (goes i) (sending next r bytes buffer) (refused_with LongResponse r buffer)))
       ∙ by_length (ltb 256 (packet_length (sent r bytes)))
     where
       by_length :
-          (long : Bool) → cond (not long) (answer_as (first ∷ rest) next r buffer) (refused_with 12 r buffer)
-          ≡ cond long (refused_with 12 r buffer) (answer_as (first ∷ rest) next r buffer)
+          (long : Bool) → cond (not long) (answer_as (first ∷ rest) next r buffer) (refused_with LongResponse r buffer)
+          ≡ cond long (refused_with LongResponse r buffer) (answer_as (first ∷ rest) next r buffer)
       by_length true = refl
       by_length false = refl
 
@@ -193,23 +196,23 @@ module _ (r : Request) (buffer : List ℕ) (legal : sound r.board ≡ true) (sho
   module _ (reports : List Report) (next : Parameters) where
     run_by :
         (fit : Bool) → leb (length (encode_reports 0 reports)) 232 ≡ fit
-        → responded_with (ran_for fit reports next r) r buffer ≡ responding reports (with_parameters r.board next) r buffer
+        → responded_with (ran_for fit reports next) r buffer ≡ responding reports (with_parameters r.board next) r buffer
     run_by true e =
         (λ i. writing (zero-add (length (encode_reports 0 reports)) i) (written_block (encode_reports 0 reports) i) (with_parameters r.board next) r buffer)
         ∙ writing_reports reports (with_parameters r.board next)
     run_by false e =
         let long : 256 < packet_length (sent r (encode_reports 0 reports)) = omega (arith, leb-false (length (encode_reports 0 reports)) 232 e) in
-        sym (ap (λ (t : Bool). cond t (refused_with 12 r buffer) (answer_as reports (with_parameters r.board next) r buffer)) (lt-ltb _ _ long))
+        sym (ap (λ (t : Bool). cond t (refused_with LongResponse r buffer) (answer_as reports (with_parameters r.board next) r buffer)) (lt-ltb _ _ long))
 
     -- what the definition says, by the reports and the next record
     defined :
         reports_of r ≡ reports → next_board r ≡ with_parameters r.board next
-        → outcome_by (cond (long_response r) (some 12) none) r buffer ≡ responding reports (with_parameters r.board next) r buffer
+        → outcome_by (cond (long_response r) (some LongResponse) none) r buffer ≡ responding reports (with_parameters r.board next) r buffer
     defined e n =
         by_length (long_response r)
-        ∙ (λ i. cond (ltb 256 (packet_length (sent r (encode_reports 0 (e i))))) (refused_with 12 r buffer) (by_reports reports e i))
+        ∙ (λ i. cond (ltb 256 (packet_length (sent r (encode_reports 0 (e i))))) (refused_with LongResponse r buffer) (by_reports reports e i))
       where
-        by_length : (long : Bool) → outcome_by (cond long (some 12) none) r buffer ≡ cond long (refused_with 12 r buffer) (answer_with (reports_of r) r buffer)
+        by_length : (long : Bool) → outcome_by (cond long (some LongResponse) none) r buffer ≡ cond long (refused_with LongResponse r buffer) (answer_with (reports_of r) r buffer)
         by_length true = refl
         by_length false = refl
 
@@ -226,13 +229,13 @@ module _ (r : Request) (buffer : List ℕ) (legal : sound r.board ≡ true) (sho
     run_responds :
         (scope : Scope) (cs : List Command) → decoded r ≡ some cs → reports_of r ≡ run_reports_in scope r.board.parameters cs
         → next_board r ≡ with_parameters r.board (run r.board.parameters cs)
-        → responded scope r buffer ≡ outcome_by (cond (long_response r) (some 12) none) r buffer
+        → responded scope r buffer ≡ outcome_by (cond (long_response r) (some LongResponse) none) r buffer
     run_responds scope cs e reports next =
         let said : List Report = run_reports_in scope r.board.parameters cs in
         let encodable : every encodable_report said ≡ true =
         encodable_reports scope cs r.board.parameters parameters_fit (low_bytes r.frame.function r.frame.block cs e) in
-        ap (λ (o : Option (List Command)). responded_with (run_from (run_result r.board.parameters (exceeded blank)) scope r.board.parameters blank o) r buffer) e
-        ∙ ap (λ (fit : Bool). responded_with (ran_for fit said (run r.board.parameters cs) r) r buffer) (taken_blank said encodable)
+        ap (λ (o : Maybe (List Command)). responded_with (run_from scope r.board.parameters blank o) r buffer) e
+        ∙ ap (λ (fit : Bool). responded_with (ran_for fit said (run r.board.parameters cs)) r buffer) (taken_blank said encodable)
         ∙ run_by said (run r.board.parameters cs) (leb (length (encode_reports 0 said)) 232) refl
         ∙ sym (defined said (run r.board.parameters cs) reports next)
 
@@ -248,7 +251,7 @@ module _ (r : Request) (buffer : List ℕ) (legal : sound r.board ≡ true) (sho
     responds_by :
         (discovery : Bool) → is_discovery r ≡ discovery → malformed r ≡ false
         → (discovery && other_than_reads r.frame) ≡ false
-        → responded (scope_of discovery) r buffer ≡ outcome_by (cond (long_response r) (some 12) none) r buffer
+        → responded (scope_of discovery) r buffer ≡ outcome_by (cond (long_response r) (some LongResponse) none) r buffer
     responds_by true d formed reads =
         let only : not (only_reads r.frame.function r.frame.block) ≡ false = sym ((other_named r.frame.function r.frame.block).formed (not-false _ formed)) ∙ reads in
         let (cs, e, all) = all_reads r.frame.function r.frame.block (not-false _ only) in
@@ -261,10 +264,10 @@ module _ (r : Request) (buffer : List ℕ) (legal : sound r.board ≡ true) (sho
         run_responds All cs e (reports_by d e ∙ sym (all_reports cs r.board.parameters)) (next_by d e)
 
     by_checks :
-        (refusal : Option ℕ) → first_refusal request_checks r ≡ refusal
-        → answered_as (judged_by refusal (scope_of (is_discovery r))) r buffer ≡ outcome_by (or_else refusal (cond (long_response r) (some 12) none)) r buffer
+        (refusal : Maybe Refusal) → first_refusal request_checks r ≡ refusal
+        → answered_as (judged_by refusal (scope_of (is_discovery r))) r buffer ≡ outcome_by (or_else refusal (cond (long_response r) (some LongResponse) none)) r buffer
     unfolding request_refusals or_else
-    by_checks (some number) e = refl
+    by_checks (some refusal) e = refl
     by_checks none e =
         let seven = not_refused _ _ r e in
         let eight = not_refused _ _ r seven.1 in
@@ -279,4 +282,4 @@ pub answered_outcome :
 unfolding request_refusals first_refusal
 answered_outcome r buffer legal short room =
     by_checks r buffer legal short room (sound_parts r.board legal).sized (first_refusal request_checks r) refl
-    ∙ ap (λ (refusal : Option ℕ). outcome_by refusal r buffer) (sym (first_of_joined r request_checks (refusal 12 long_response ∷ [])))
+    ∙ ap (λ (refusal : Maybe Refusal). outcome_by refusal r buffer) (sym (first_of_joined r request_checks (rule LongResponse long_response ∷ [])))

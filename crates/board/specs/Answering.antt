@@ -1,22 +1,21 @@
 -- How the code goes through a call: the scope of its checks, and what it makes of a request.
-use Rattle.std.specs.Prelude.{ℕ, Bool, true, false, cond, List, ◌≡◌, eqb, length, take}
-use Rattle.std.proofs.Math.Option.{Option, none, some}
+use Rattle.std.specs.Prelude.{ℕ, Bool, true, false, cond, List, ◌≡◌, eqb, length, take, Option, None, Some, Result, Ok, Err}
+use Rattle.std.proofs.Math.Option.{Option as Maybe, none, some}
 use Rattle.octets.specs.Octets.{overwrite}
 use Rattle.framing.specs.Frame.{Frame, frame, packet_of}
 use Rattle.framing.specs.Packet.{writable}
-use Rattle.framing.specs.Refusal.{Refusal, first_refusal}
+use Rattle.framing.specs.Refusal.{Rule, first_refusal}
+use Rattle.refusals.specs.declared.Refusal.{Refusal}
+use Rattle.refusals.specs.declared.Refusal.TheVariants.{LongResponse}
 use Rattle.commands.specs.Draft.{run_block}
 use Rattle.model.specs.Record.{set_up, start_board, with_parameters}
 use Rattle.model.specs.Step.{Request, request_of, Outcome, outcome_of, is_discovery, request_refusals}
 use Rattle.model.specs.declared.Answer.TheVariants.{Refused, Silence, Response}
 use Rattle.model.specs.declared.Stepped.{Stepped}
-use Rattle.board.specs.declared.packets.Judged.{Judged}
-use Rattle.board.specs.declared.packets.Judged.TheVariants.{Refused as No, Passed as Yes}
+use Rattle.board.specs.declared.packets.Carried.{Carried}
 use Rattle.commands.specs.declared.RunResult.{RunResult}
 use Rattle.commands.specs.declared.Scope.{Scope}
 use Rattle.commands.specs.declared.Scope.TheVariants.{All, Identity}
-use Rattle.commands.specs.declared.draft.Room.{Room}
-use Rattle.commands.specs.declared.draft.Room.TheVariants.{Left, Over}
 
 abbrev pub scope_of : Bool → Scope
 scope_of discovery = cond discovery Identity All
@@ -25,23 +24,25 @@ abbrev pub in_identity : Scope → Bool
 in_identity All = false
 in_identity Identity = true
 
-abbrev pub refused_with : ℕ → Request → List ℕ → Outcome
-refused_with number r buffer = outcome_of r.board (Refused number) buffer
+-- what a packet carries, as the code cut it out
+abbrev pub frame_in : Carried → Frame
+frame_in carried = frame carried.id.now carried.password.now carried.function carried.block.now
+
+abbrev pub refused_with : Refusal → Request → List ℕ → Outcome
+refused_with refusal r buffer = outcome_of r.board (Refused refusal) buffer
 
 -- the response to commands that were run
 abbrev pub response_of : RunResult → Request → Frame
 response_of ran r = frame r.board.id r.frame.password 0x06 (take ran.draft.length ran.draft.bytes)
 
-abbrev pub responded_in : Room → RunResult → Request → List ℕ → Outcome
-responded_in Over ran r buffer = refused_with 12 r buffer
-responded_in Left ran r buffer =
+-- where there are none to run, or their reports have no room, 12
+abbrev pub responded_with : Option RunResult → Request → List ℕ → Outcome
+responded_with None r buffer = refused_with LongResponse r buffer
+responded_with (Some ran) r buffer =
     cond (eqb ran.draft.length 0) (outcome_of (with_parameters r.board ran.parameters) Silence buffer)
     (cond (writable (response_of ran r) buffer)
     (outcome_of (with_parameters r.board ran.parameters) (Response (length (packet_of (response_of ran r)))) (overwrite buffer 0 (packet_of (response_of ran r))))
-    (refused_with 12 r buffer))
-
-abbrev pub responded_with : RunResult → Request → List ℕ → Outcome
-responded_with ran r buffer = responded_in ran.draft.room ran r buffer
+    (refused_with LongResponse r buffer))
 
 abbrev pub responded : Scope → Request → List ℕ → Outcome
 responded scope r buffer = responded_with (run_block scope r.board.parameters r.frame.function r.frame.block) r buffer
@@ -51,24 +52,20 @@ abbrev pub request_to : List ℕ → List ℕ → ℕ → Frame → Request
 request_to id password mode f = request_of (start_board (set_up id password mode 2)) f
 
 -- the refusals of a request but the last, 12, which is its response's
-abbrev pub request_checks : List (Refusal Request)
+abbrev pub request_checks : List (Rule Request)
 request_checks = take 5 request_refusals
 
-abbrev pub judged_by : Option ℕ → Scope → Judged
-judged_by (some number) scope = No number
-judged_by none scope = Yes scope
+-- what the checks make of a request: its refusal, or which parameters it may have reported
+abbrev pub judged_by : Maybe Refusal → Scope → Result Scope Refusal
+judged_by (some refusal) scope = Err refusal
+judged_by none scope = Ok scope
 
-abbrev pub judged : Request → Judged
+abbrev pub judged : Request → Result Scope Refusal
 judged r = judged_by (first_refusal request_checks r) (scope_of (is_discovery r))
 
--- the number of a refused request
-abbrev pub judged_number : Judged → ℕ
-judged_number (No number) = number
-judged_number (Yes scope) = 0
-
-abbrev pub answered_as : Judged → Request → List ℕ → Outcome
-answered_as (No number) r buffer = refused_with number r buffer
-answered_as (Yes scope) r buffer = responded scope r buffer
+abbrev pub answered_as : Result Scope Refusal → Request → List ℕ → Outcome
+answered_as (Err refusal) r buffer = refused_with refusal r buffer
+answered_as (Ok scope) r buffer = responded scope r buffer
 
 -- a request: the checks 7 to 11, then the response or 12
 abbrev pub answered : Request → List ℕ → Outcome

@@ -15,13 +15,7 @@ use framing::Check;
 pub(crate) fn check_id(id: &[u8]) -> Check
     ensures { result ≡ checked (not (is_id id.now)) }
 {
-    if id.len() != framing::ID_SIZE {
-        return Check::Failed;
-    }
-    if framing::is_default_id(id) {
-        return Check::Failed;
-    }
-    Check::Passed
+    framing::passed_if(id.len() == framing::ID_SIZE && !framing::is_default_id(id))
 }
 
 // Refusal 21: a password has at most 8 characters, each a digit or a letter.
@@ -36,8 +30,7 @@ pub(crate) fn check_mode(mode: u8) -> Check
     ensures { result ≡ checked (not (is_mode mode)) }
 {
     match mode {
-        1 => Check::Passed,
-        2 => Check::Passed,
+        1 | 2 => Check::Passed,
         _ => Check::Failed,
     }
 }
@@ -46,40 +39,28 @@ pub(crate) fn check_mode(mode: u8) -> Check
 pub(crate) fn check_unit(unit: u8) -> Check
     ensures { result ≡ checked (not (is_unit unit)) }
 {
-    framing::passed_if(octets::is_between(2, 5, unit))
+    framing::passed_if((2..=5).contains(&unit))
 }
 
 // Refusal 1: the response buffer has room for the longest packet.
 pub(crate) fn check_buffer(length: usize) -> Check
     ensures { result ≡ checked (ltb length 256) }
 {
-    if length < framing::LONGEST_PACKET {
-        return Check::Failed;
-    }
-    Check::Passed
+    framing::passed_if(framing::LONGEST_PACKET <= length)
 }
 
 // Refusal 7: the ID is the board's own or the default ID.
 pub(crate) fn check_address(own: &[u8], id: &[u8]) -> Check
     ensures { result ≡ checked (not (same id.now own.now || same id.now default_id)) }
 {
-    if octets::equal(id, own) {
-        return Check::Passed;
-    }
-    if framing::is_default_id(id) {
-        return Check::Passed;
-    }
-    Check::Failed
+    framing::passed_if(octets::equal(id, own) || framing::is_default_id(id))
 }
 
 // Which parameters are open: in client mode the default ID asks for a discovery.
 pub(crate) fn scope_of(mode: u8, id: &[u8]) -> Scope
     ensures { result ≡ scope_of (eqb mode client && same id.now default_id) }
 {
-    if mode != 1 {
-        return Scope::All;
-    }
-    if framing::is_default_id(id) {
+    if mode == 1 && framing::is_default_id(id) {
         return Scope::Identity;
     }
     Scope::All
@@ -99,10 +80,7 @@ pub(crate) fn check_password(scope: Scope, own: &[u8], password: &[u8]) -> Check
 pub(crate) fn check_function(function: u8) -> Check
     ensures { result ≡ checked (not (is_function function)) }
 {
-    match function {
-        1..=5 => Check::Passed,
-        _ => Check::Failed,
-    }
+    framing::passed_if((1..=5).contains(&function))
 }
 
 // Refusal 10: the data block is well formed from its FUNC on.

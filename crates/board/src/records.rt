@@ -2,7 +2,6 @@
 ghost use Rattle.std.specs.Prelude.{◌-◌, ◌≤◌, not, ◌&&◌, ◌++◌, ◌≡◌, length, replicate};
 ghost use Rattle.octets.specs.Octets.{same};
 ghost use Rattle.store.specs.Layout.{value_of};
-ghost use Rattle.store.specs.Operations.{refusal_of};
 ghost use Rattle.store.specs.Sound.{sound as rows_sound};
 ghost use Rattle.store.specs.Start.{start as start_rows};
 ghost use Rattle.schedule.specs.Entries.{start as start_entries};
@@ -12,24 +11,17 @@ ghost use Rattle.model.specs.Record.{SetsUp, entries_sound, is_unit, parameters_
 
 use super::checks;
 use framing::Check;
-use model::{Answered, Board, Parameters, Verdict};
-use store::{Measurement, Store};
+use model::{Answered, Board, Parameters};
+use refusals::Refusal;
+use store::Store;
 
-fn padded_id(bytes: &[u8]) -> [u8; framing::ID_SIZE]
-    requires { length bytes.now ≡ 16 }
-    ensures { result ≡ bytes.now }
+// Bytes as an array of a size that has room for them, what they leave of it zero.
+fn padded<const N: usize>(bytes: &[u8]) -> [u8; N]
+    requires { length bytes.now ≤ N }
+    ensures { result ≡ bytes.now ++ replicate (N - length bytes.now) 0 }
 {
-    let mut array = [0u8; framing::ID_SIZE];
-    octets::overwrite(&mut array, 0, bytes);
-    array
-}
-
-fn padded_password(bytes: &[u8]) -> [u8; framing::LONGEST_PASSWORD]
-    requires { length bytes.now ≤ 8 }
-    ensures { result ≡ bytes.now ++ replicate (8 - length bytes.now) 0 }
-{
-    let mut array = [0u8; framing::LONGEST_PASSWORD];
-    octets::overwrite(&mut array, 0, bytes);
+    let mut array = [0u8; N];
+    array[..bytes.len()].copy_from_slice(bytes);
     array
 }
 
@@ -48,11 +40,10 @@ fn start(id: &[u8], password: &[u8], mode: u8, unit: u8) -> Board
     requires { (length id.now ≡ 16) × (length password.now ≤ 8) }
     ensures { result ≡ start_board (set_up id.now password.now mode unit) }
 {
-    let own = padded_id(id);
-    let secret = padded_password(password);
+    let own = padded(id);
     Board {
         id: own,
-        password: secret,
+        password: padded(password),
         size: password.len() as u8,
         mode,
         parameters: start_parameters(own, unit),
@@ -60,36 +51,34 @@ fn start(id: &[u8], password: &[u8], mode: u8, unit: u8) -> Board
 }
 
 // A refused set-up still gives a board: a zero ID, no password, client, Micra.
-fn refused(number: u8) -> Answered
-    ensures { (result.board ≡ start_board unset) × (result.verdict ≡ Verdict.Refused number) }
+fn refused(refusal: Refusal) -> Answered
+    ensures { (result.board ≡ start_board unset) × (result.verdict ≡ Err refusal) }
 {
-    let id = [0u8; framing::ID_SIZE];
-    let board = start(&id, b"", 1, rows::MICRA);
     Answered {
-        board,
-        verdict: Verdict::Refused(number),
+        board: start(&[0u8; framing::ID_SIZE], b"", 1, rows::MICRA),
+        verdict: Err(refusal),
     }
 }
 
+#[tactic(auto, unfolding(model::specs::Record::set_up_refusals, model::specs::Record::set_up_refusal, model::specs::Record::set_up_board, framing::specs::Refusal::first_refusal))]
 pub(crate) fn set_up(id: &[u8], password: &[u8], mode: u8, unit: u8) -> Answered
     ensures { SetsUp (set_up id.now password.now mode unit) result }
 {
     let Check::Passed = checks::check_id(id) else {
-        return refused(20);
+        return refused(Refusal::BadId);
     };
     let Check::Passed = checks::check_new_password(password) else {
-        return refused(21);
+        return refused(Refusal::BadPassword);
     };
     let Check::Passed = checks::check_mode(mode) else {
-        return refused(22);
+        return refused(Refusal::BadMode);
     };
     let Check::Passed = checks::check_unit(unit) else {
-        return refused(23);
+        return refused(Refusal::BadUnitType);
     };
-    let board = start(id, password, mode, unit);
     Answered {
-        board,
-        verdict: Verdict::Accepted,
+        board: start(id, password, mode, unit),
+        verdict: Ok(()),
     }
 }
 
@@ -97,20 +86,13 @@ pub(crate) fn set_up(id: &[u8], password: &[u8], mode: u8, unit: u8) -> Answered
 fn check_rows(id: [u8; framing::ID_SIZE], store: Store) -> Check
     ensures { result ≡ checked (not (rows_sound store && same (value_of store 0x007C) id && same (value_of store 0x00B9) (unit_type store.unit))) }
 {
-    if !store::sound(store) {
-        return Check::Failed;
-    }
-    if !octets::equal(store::held(&store.bytes, store.unit, rows::ID), &id) {
-        return Check::Failed;
-    }
-    let unit_type = [store.unit, 0];
-    if !octets::equal(
-        store::held(&store.bytes, store.unit, rows::UNIT_TYPE),
-        &unit_type,
-    ) {
-        return Check::Failed;
-    }
-    Check::Passed
+    let own = store::held(&store.bytes, store.unit, rows::ID);
+    let unit_type = store::held(&store.bytes, store.unit, rows::UNIT_TYPE);
+    framing::passed_if(
+        store::sound(store)
+            && octets::equal(own, &id)
+            && octets::equal(unit_type, &[store.unit, 0]),
+    )
 }
 
 // Whether the unit type is one, and on a Micra each entry of the schedule is legal.
@@ -128,79 +110,64 @@ fn check_entries(parameters: Parameters) -> Check
 }
 
 // Refusal 70: each call takes only a record that set-up and the calls can make.
+#[tactic(auto, unfolding(model::specs::Record::sound))]
 pub(crate) fn check_record(board: Board) -> Check
     ensures { result ≡ checked (not (sound board)) }
 {
-    let id = board.id;
-    let Check::Passed = checks::check_id(&id) else {
+    let Check::Passed = checks::check_id(&board.id) else {
         return Check::Failed;
     };
     let size = usize::from(board.size);
     if framing::LONGEST_PASSWORD < size {
         return Check::Failed;
     }
-    let password = board.password;
-    let Check::Passed = checks::check_new_password(&password[..size]) else {
+    let Check::Passed = checks::check_new_password(&board.password[..size]) else {
         return Check::Failed;
     };
     let Check::Passed = checks::check_mode(board.mode) else {
         return Check::Failed;
     };
-    let parameters = board.parameters;
-    let Check::Passed = check_entries(parameters) else {
+    let Check::Passed = check_entries(board.parameters) else {
         return Check::Failed;
     };
-    check_rows(id, parameters.store)
+    check_rows(board.id, board.parameters.store)
 }
 
-// The record with other parameters. Written out: setting the field of a copy takes 352 bytes more of the stack in `measure`.
+// The record with other parameters.
 pub(crate) fn with_parameters(board: Board, parameters: Parameters) -> Board
     ensures { result ≡ with_parameters board parameters }
 {
-    let id = board.id;
-    let password = board.password;
     Board {
-        id,
-        password,
-        size: board.size,
-        mode: board.mode,
         parameters,
+        ..board
     }
 }
 
-fn refusal_number(measurement: Measurement) -> u8
-    ensures { result ≡ refusal_of measurement }
-{
-    match measurement {
-        Measurement::Accepted => 0,
-        Measurement::NotMeasured => 30,
-        Measurement::WrongLength => 31,
-    }
-}
-
+#[tactic(auto, unfolding(model::specs::Measurement::measure_refusals, model::specs::Measurement::measure_refusal, model::specs::Measurement::measured_board, framing::specs::Refusal::first_refusal))]
 pub(crate) fn measure(board: Board, number: u16, value: &[u8]) -> Answered
     ensures { MeasuresBoard (measure_call board number value.now) result }
 {
     let Check::Passed = check_record(board) else {
         return Answered {
             board,
-            verdict: Verdict::Refused(70),
+            verdict: Err(Refusal::BadRecord),
         };
     };
     let held = board.parameters;
-    let measured = store::measure(held.store, number, value);
-    let answer = measured.answer;
-    let Measurement::Accepted = answer else {
-        return Answered {
+    match store::measure(held.store, number, value) {
+        Ok(store) => {
+            let parameters = Parameters {
+                store,
+                schedule: held.schedule,
+            };
+            Answered {
+                board: with_parameters(board, parameters),
+                verdict: Ok(()),
+            }
+        }
+        Err(refusal) => Answered {
             board,
-            verdict: Verdict::Refused(refusal_number(answer)),
-        };
-    };
-    let store = measured.store;
-    let schedule = held.schedule;
-    let parameters = Parameters { store, schedule };
-    Answered {
-        board: with_parameters(board, parameters),
-        verdict: Verdict::Accepted,
+            verdict: Err(refusal),
+        },
     }
 }
