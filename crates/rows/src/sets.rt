@@ -15,12 +15,45 @@ pub fn low_first_number(value: &[u8]) -> u16
     u16::from_le_bytes([octets::byte_at(value, 0), octets::byte_at(value, 1)])
 }
 
-fn in_range(range: Range, number: u16) -> bool
-    requires { 0 < range.step }
-    ensures { result ≡ in_range range number }
-{
-    number == range.extra
-        || (range.low..=range.high).contains(&number) && (number - range.low) % range.step == 0
+impl Range {
+    fn contains(self, number: u16) -> bool
+        requires { 0 < self.step }
+        ensures { result ≡ in_range self number }
+    {
+        number == self.extra
+            || (self.low..=self.high).contains(&number) && (number - self.low) % self.step == 0
+    }
+
+    fn greatest(self) -> u16
+        ensures { result ≡ greatest_of self }
+    {
+        self.high.max(self.extra)
+    }
+
+    fn least_above(self, number: u16) -> Option<u16>
+        requires { 0 < self.step }
+        ensures { result ≡ least_above self number }
+    {
+        for below in number..self.greatest() {
+            let next = below + 1;
+            if self.contains(next) {
+                return Some(next);
+            }
+        }
+        None
+    }
+
+    fn greatest_below(self, number: u16) -> Option<u16>
+        requires { 0 < self.step }
+        ensures { result ≡ greatest_below self number }
+    {
+        for next in (0..number).rev() {
+            if self.contains(next) {
+                return Some(next);
+            }
+        }
+        None
+    }
 }
 
 #[tactic(auto, unfolding(crate::specs::Sets::printable))]
@@ -62,7 +95,7 @@ fn takes(index: usize, temperature: WholeDegrees) -> bool
     requires { (row_at index).quantity ≡ Quantity.WholeDegrees }
     ensures { result ≡ in_range (range_of (set_at index)) temperature.degrees }
 {
-    in_range(range_at(index), u16::from(temperature.degrees))
+    range_at(index).contains(u16::from(temperature.degrees))
 }
 
 fn is_number(index: usize, value: &[u8]) -> bool
@@ -76,7 +109,7 @@ fn is_number(index: usize, value: &[u8]) -> bool
             let degrees = octets::byte_at(value, 0);
             takes(index, WholeDegrees { degrees })
         }
-        _ => in_range(range_at(index), low_first_number(value)),
+        _ => range_at(index).contains(low_first_number(value)),
     }
 }
 
@@ -101,44 +134,13 @@ pub fn is_member(index: usize, value: &[u8]) -> bool
     }
 }
 
-fn greatest(range: Range) -> u16
-    ensures { result ≡ greatest_of range }
-{
-    range.high.max(range.extra)
-}
-
-fn least_above(range: Range, number: u16) -> Option<u16>
-    requires { 0 < range.step }
-    ensures { result ≡ least_above range number }
-{
-    for below in number..greatest(range) {
-        let next = below + 1;
-        if in_range(range, next) {
-            return Some(next);
-        }
-    }
-    None
-}
-
-fn greatest_below(range: Range, number: u16) -> Option<u16>
-    requires { 0 < range.step }
-    ensures { result ≡ greatest_below range number }
-{
-    for next in (0..number).rev() {
-        if in_range(range, next) {
-            return Some(next);
-        }
-    }
-    None
-}
-
 // The neighbour of a number in the range of the row at an index, up or down.
 pub fn neighbour(index: usize, number: u16, up: bool) -> Option<u16>
     ensures { result ≡ cond up least_above greatest_below (range_of (set_at index)) number }
 {
     let range = range_at(index);
     if up {
-        return least_above(range, number);
+        return range.least_above(number);
     }
-    greatest_below(range, number)
+    range.greatest_below(number)
 }

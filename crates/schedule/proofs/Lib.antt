@@ -1,3 +1,4 @@
+pub mod Lengths
 pub mod Places
 pub mod Spans
 pub mod Writing

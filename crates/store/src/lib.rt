@@ -196,10 +196,10 @@ pub fn start(id: [u8; ID_SIZE], unit: u8) -> Store
 }
 
 // Whether the row at an index holds a value of its set, or the unit type lacks it.
-fn row_sound(bytes: &[u8], unit: u8, index: usize) -> bool
-    ensures { result ≡ (not (has_of unit (row_at index)) || member (set_at index) (value_at bytes.now index)) }
+fn row_sound(store: &Store, index: usize) -> bool
+    ensures { result ≡ (not (has_of store.now.unit (row_at index)) || member (set_at index) (value_at store.now.bytes index)) }
 {
-    !has(unit, index) || is_member(index, value_at(bytes, index))
+    !has(store.unit, index) || is_member(index, value_at(&store.bytes, index))
 }
 
 // Whether each row that the unit type has holds a value of its set.
@@ -207,7 +207,7 @@ pub fn sound(store: Store) -> bool
     ensures { result ≡ sound_of store }
 {
     for index in 0..rows::ROWS {
-        if !row_sound(&store.bytes, store.unit, index) {
+        if !row_sound(&store, index) {
             return false;
         }
     }

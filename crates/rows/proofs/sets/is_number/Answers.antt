@@ -7,8 +7,8 @@ use Rattle.rows.specs.Layout.{set_at}
 use Rattle.rows.specs.Sets.{in_range}
 use Rattle.rows.proofs.sets.is_number.Goals as goal
 
-pub in_range-requires : goal.in_range-requires
-in_range-requires c = rw c.range_at.ensures (step_pos c.args.index)
+pub contains-requires : goal.contains-requires
+contains-requires c = rw c.range_at.ensures (step_pos c.args.index)
 
 pub returns-in-WholeDegrees : goal.returns-in-WholeDegrees
 returns-in-WholeDegrees c =
