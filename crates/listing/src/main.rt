@@ -3,13 +3,12 @@
 
 use std::io;
 use std::io::Stdout;
-use tool::listing::Listed;
 
 // Writes the listing of a packet.
 fn list(to: Stdout, packet: &[u8]) -> io::Result<()> {
     // The longest listing.
     let mut text = [0u8; 1753];
-    let Listed::Length(length) = tool::listing::list(&mut text, packet) else {
+    let Some(length) = tool::listing::list(&mut text, packet) else {
         return Ok(());
     };
     to.write_all(octets::first_bytes(&text, length))
