@@ -7,6 +7,8 @@ use mathlib.Core.Path.{◌≡◌, refl, sym, ap, ◌∙◌}
 use borrow.Author.Tests.{le-leb}
 use lib.ListN.{length, take, drop, get_or, length-drop, length-set}
 use lib.Seq.{take_all}
+use Rattle.std.specs.Prelude.{Ok, Err}
+use Rattle.refusals.specs.declared.Refusal.TheVariants.{WrongRecord}
 use Rattle.block.specs.Reading.{part_of}
 use Rattle.captures.specs.declared.Version.{Version}
 use Rattle.captures.specs.declared.reading.NextRecord.TheVariants as next
@@ -15,7 +17,6 @@ use Rattle.captures.specs.Reading.{Reading, left, wrong, item, read, records_of,
 use Rattle.captures.proofs.Next.{Placed, placed}
 use Rattle.captures.proofs.Records.{read_by}
 use Rattle.counts.specs.Counting.{place, more, counted, counted_one, end_of, Counts}
-use Rattle.counts.specs.declared.counting.Ending.TheVariants.{Left, Wrong}
 
 -- counts and ending of what is left are those of the whole
 pub record Same (version : Version) (boards : ℕ) (bytes before rest now : List ℕ) : Type 0 where
@@ -36,15 +37,15 @@ module _ (version : Version) (boards : ℕ) (rest : List ℕ) where
       }
 
   module _ {bytes before now : List ℕ} (so_far : Same version boards bytes before rest now) where
-    pub ended : next_record version boards rest ≡ next.End → Counts version boards bytes before (Left 0) now
+    pub ended : next_record version boards rest ≡ next.End → Counts version boards bytes before (Ok 0) now
     unfolding end_of records_of
     ended e = ends (left []) (read_by version boards rest e) refl so_far
 
-    pub cut : next_record version boards rest ≡ next.Cut → Counts version boards bytes before (Left (length rest)) now
+    pub cut : next_record version boards rest ≡ next.Cut → Counts version boards bytes before (Ok (length rest)) now
     unfolding end_of records_of
     cut e = ends (left rest) (read_by version boards rest e) refl so_far
 
-    pub outside : next_record version boards rest ≡ next.Wrong → Counts version boards bytes before Wrong now
+    pub outside : next_record version boards rest ≡ next.Wrong → Counts version boards bytes before (Err WrongRecord) now
     unfolding end_of records_of
     outside e = ends wrong (read_by version boards rest e) refl so_far
 

@@ -1,16 +1,12 @@
--- How a request is refused.
-use Prim.Native.Nat.{ℕ}
-use mathlib.Core.List.{List, map}
-use mathlib.Core.Option.{or_else}
-use mathlib.Core.Path.{◌≡◌, ap, ◌∙◌}
-use Rattle.framing.specs.Refusal.{refusal_of, first_refusal}
-use Rattle.framing.specs.Packet.{packet_refusals, packet_refusal, frame_of}
-use Rattle.framing.proofs.Refusals.{first_of_joined, first_of_part}
-use Rattle.counts.specs.Judging.{request_refusals, any_request_refusals, any_request_refusal}
+-- What the code says of a refusal.
+use mathlib.Core.Option.{Option, none, some}
+use mathlib.Core.Path.{◌≡◌, refl}
+use Rattle.std.specs.Result.{result_err}
+use Rattle.framing.specs.declared.Places.{Places}
+use Rattle.refusals.specs.declared.Refusal.{Refusal}
+use Rattle.tool.specs.Response.{response_as}
+use Rattle.counts.specs.Judging.{in_code}
 
--- a request's refusal: of its bytes, then of its frame
-pub request_refusal : (packet : List ℕ) → any_request_refusal packet ≡ or_else (packet_refusal packet) (first_refusal request_refusals (frame_of packet))
-unfolding any_request_refusal any_request_refusals packet_refusal
-request_refusal packet =
-    first_of_joined packet packet_refusals (map (refusal_of frame_of) request_refusals)
-    ∙ ap (or_else (first_refusal packet_refusals packet)) (first_of_part packet frame_of request_refusals)
+pub why_refused : (refused : Option Refusal) (places : Places) → result_err (response_as refused places) ≡ in_code refused
+why_refused none places = refl
+why_refused (some refusal) places = refl

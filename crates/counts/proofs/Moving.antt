@@ -8,8 +8,10 @@ use borrow.Author.Tests.{le-leb, lt-leb, leb-true, leb-false}
 use lib.Dec.{leb}
 use lib.ListN.{length, take, drop, length-drop, drop_of_length-le}
 use lib.Seq.{drop-drop, drop-length}
+use Rattle.std.specs.Prelude.{Result, Ok, Err}
 use Rattle.std.specs.List.{copy_within}
 use Rattle.octets.specs.Octets.{overwrite}
+use Rattle.refusals.specs.declared.Refusal.{Refusal}
 use Rattle.captures.specs.Form.{packet_at}
 use Rattle.captures.specs.Reading.{index_in, direction_in, size_in, Reading, left, wrong, item, read}
 use Rattle.captures.specs.declared.Version.{Version}
@@ -17,8 +19,6 @@ use Rattle.captures.proofs.Ranges.{ranges}
 use Rattle.captures.proofs.Readings.{of_readings}
 use Rattle.counts.specs.Counting.{end_of, left_of, last_of, Counts, window_part, CountsWindow}
 use Rattle.counts.specs.Statements.{LeftShort}
-use Rattle.counts.specs.declared.counting.Ending.{Ending}
-use Rattle.counts.specs.declared.counting.Ending.TheVariants.{Left, Wrong}
 
 -- what is left of some bytes is their end
 pub record Ends (bytes rest : List ℕ) : Type 0 where
@@ -70,13 +70,13 @@ left_short version boards bytes =
     bytes 0
 
 -- how many bytes are left
-pub left_size : (r : Reading) {size : ℕ} → end_of r ≡ Left size → length (left_of r) ≡ size
+pub left_size : (r : Reading) {size : ℕ} → end_of r ≡ Ok size → length (left_of r) ≡ size
 unfolding end_of left_of
 left_size (left bytes) e = cc
 left_size wrong e = cc
 left_size (item r after) e = left_size after e
 
-left_none : (r : Reading) → end_of r ≡ Wrong → left_of r ≡ []
+left_none : (r : Reading) {refusal : Refusal} → end_of r ≡ Err refusal → left_of r ≡ []
 unfolding end_of left_of
 left_none (left bytes) e = cc
 left_none wrong e = refl
@@ -120,17 +120,17 @@ module _ (start end : ℕ) (window rest : List ℕ) (e : Ends (window_part start
       ∙ drop_of_length-le (take end window) {i = start + (length (window_part start end window) - length rest)} (omega arith)
       ∙ sym (drop_of_length-le (take end window) {i = length (take end window) - length rest} (omega arith))
 
-  pub rest_last : rest ≡ last_of (Left (length rest)) (take end window)
+  pub rest_last : rest ≡ last_of (Ok (length rest)) (take end window)
   rest_last = rest_by (leb start (length (take end window))) refl ∙ rw (le-leb (length rest) (length (take end window)) rest_within)
 
 -- what is left of that part: the last bytes, as its ending tells
 by_ending :
-    (version : Version) (boards start end : ℕ) (window : List ℕ) (ending : Ending) → end_of (read version boards (window_part start end window)) ≡ ending
+    (version : Version) (boards start end : ℕ) (window : List ℕ) (ending : Result ℕ Refusal) → end_of (read version boards (window_part start end window)) ≡ ending
     → last_of ending (take end window) ≡ left_of (read version boards (window_part start end window))
-by_ending version boards start end window Wrong e = sym (left_none (read version boards (window_part start end window)) e)
-by_ending version boards start end window (Left size) e =
+by_ending version boards start end window (Err refusal) e = sym (left_none (read version boards (window_part start end window)) e)
+by_ending version boards start end window (Ok size) e =
     let rest = left_of (read version boards (window_part start end window)) in
-    ap (λ (n : ℕ). last_of (Left n) (take end window)) (sym (left_size (read version boards (window_part start end window)) e))
+    ap (λ (n : ℕ). last_of (Ok n) (take end window)) (sym (left_size (read version boards (window_part start end window)) e))
     ∙ sym (rest_last start end window rest (left_ends version boards (window_part start end window)))
 
 pub last_left :
@@ -140,12 +140,12 @@ last_left version boards start end window = by_ending version boards start end w
 
 -- what `keep` moves
 module _ (end : ℕ) (window : List ℕ) {filled : List ℕ} (front : filled ≡ take end window) {size : ℕ} where
-  pub none_last : length filled < size → window ≡ overwrite window 0 (last_of (Left size) (take end window))
+  pub none_last : length filled < size → window ≡ overwrite window 0 (last_of (Ok size) (take end window))
   none_last h = rw (lt-leb size (length (take end window)) (omega (arith, ap length front)))
 
   pub last_moved :
       {moved : List ℕ} → size ≤ length filled → moved ≡ copy_within window (length filled - size) (length filled) 0
-      → moved ≡ overwrite window 0 (last_of (Left size) (take end window))
+      → moved ≡ overwrite window 0 (last_of (Ok size) (take end window))
   last_moved h e =
       let within : size ≤ length (take end window) = omega (arith, ap length front) in
       let place = length (take end window) - size in
@@ -157,7 +157,7 @@ module _ (end : ℕ) (window : List ℕ) {filled : List ℕ} (front : filled ≡
 
 -- what `count` answered of a part, and what was kept
 pub counts_and_keeps :
-    (version : Version) (boards start end : ℕ) (window : List ℕ) {filled part counts after moved : List ℕ} {answer : Ending} → filled ≡ take end window
+    (version : Version) (boards start end : ℕ) (window : List ℕ) {filled part counts after moved : List ℕ} {answer : Result ℕ Refusal} → filled ≡ take end window
     → part ≡ drop start filled → Counts version boards part counts answer after → moved ≡ overwrite window 0 (last_of answer (take end window))
     → CountsWindow version boards start end window counts answer after moved
 counts_and_keeps version boards start end window {part} {counts} {after} {answer} front cut done kept =
@@ -166,5 +166,5 @@ counts_and_keeps version boards start end window {part} {counts} {after} {answer
       counts = counted_part;
       kept =
           kept
-          ∙ ap (overwrite window 0) (ap (λ (e : Ending). last_of e (take end window)) counted_part.answered ∙ last_left version boards start end window);
+          ∙ ap (overwrite window 0) (ap (λ (e : Result ℕ Refusal). last_of e (take end window)) counted_part.answered ∙ last_left version boards start end window);
     }

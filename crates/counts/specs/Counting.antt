@@ -1,16 +1,16 @@
 -- How often each number occurs for each board.
-use Rattle.std.specs.Prelude.{ℕ, ◌+◌, ◌-◌, ◌*◌, cond, ◌&&◌, List, [], ◌∷◌, ◌≡◌, leb, ltb, eqb, length, take, drop, get_or, set}
+use Rattle.std.specs.Prelude.{ℕ, ◌+◌, ◌-◌, ◌*◌, cond, ◌&&◌, Option, None, Some, Result, Ok, Err, List, [], ◌∷◌, ◌≡◌, leb, ltb, eqb, length, take, drop, get_or, set}
 use Rattle.octets.specs.Octets.{overwrite}
 use Rattle.captures.specs.Form.{Record}
 use Rattle.captures.specs.Reading.{Reading, left, wrong, item, read, records_of}
 use Rattle.captures.specs.declared.Version.{Version}
-use Rattle.counts.specs.Judging.{judged}
-use Rattle.counts.specs.declared.counting.Ending.{Ending}
-use Rattle.counts.specs.declared.counting.Ending.TheVariants.{Left, Wrong}
+use Rattle.refusals.specs.declared.Refusal.{Refusal}
+use Rattle.refusals.specs.declared.Refusal.TheVariants.{WrongRecord}
+use Rattle.counts.specs.Judging.{judged_number}
 
 -- the number of a record: 0 to 10
 abbrev pub number_of : Record → ℕ
-number_of r = judged r.direction r.packet
+number_of r = judged_number r.direction r.packet
 
 -- how many of the records are of this board and have this number
 unfoldable pub count_of : List Record → ℕ → ℕ → ℕ
@@ -43,9 +43,9 @@ counted counts [] = counts
 counted counts (r ∷ rs) = counted (counted_one counts r) rs
 
 -- how a reading ends: with so many bytes left, or at a field outside its range
-unfoldable pub end_of : Reading → Ending
-end_of (left bytes) = Left (length bytes)
-end_of wrong = Wrong
+unfoldable pub end_of : Reading → Result ℕ Refusal
+end_of (left bytes) = Ok (length bytes)
+end_of wrong = Err WrongRecord
 end_of (item r after) = end_of after
 
 -- the bytes that are left
@@ -55,17 +55,17 @@ left_of wrong = []
 left_of (item r after) = left_of after
 
 -- the last bytes, as many as are left; none where there are not so many
-abbrev pub last_of : Ending → List ℕ → List ℕ
-last_of (Left size) bytes = cond (leb size (length bytes)) (drop (length bytes - size) bytes) []
-last_of Wrong bytes = []
+abbrev pub last_of : Result ℕ Refusal → List ℕ → List ℕ
+last_of (Ok size) bytes = cond (leb size (length bytes)) (drop (length bytes - size) bytes) []
+last_of (Err refusal) bytes = []
 
--- the number of the refusal, 0 for none, where no more bytes come
-abbrev pub ending_number : Ending → ℕ
-ending_number (Left size) = cond (eqb size 0) 0 53
-ending_number Wrong = 53
+-- the refusal, where no more bytes come
+abbrev pub refusal_at_end : Result ℕ Refusal → Option Refusal
+refusal_at_end (Ok size) = cond (eqb size 0) None (Some WrongRecord)
+refusal_at_end (Err refusal) = Some refusal
 
 -- the contract of `count`
-pub record Counts (version : Version) (boards : ℕ) (bytes before : List ℕ) (answer : Ending) (after : List ℕ) : Type 0 where
+pub record Counts (version : Version) (boards : ℕ) (bytes before : List ℕ) (answer : Result ℕ Refusal) (after : List ℕ) : Type 0 where
   pub answered : answer ≡ end_of (read version boards bytes)
   pub held : after ≡ counted before (records_of (read version boards bytes))
 
@@ -74,6 +74,6 @@ abbrev pub window_part : ℕ → ℕ → List ℕ → List ℕ
 window_part start end window = drop start (take end window)
 
 -- the contract of `count_window`: the records of a part of the window are counted, and the bytes that are left put at its start
-pub record CountsWindow (version : Version) (boards start end : ℕ) (window before : List ℕ) (answer : Ending) (after moved : List ℕ) : Type 0 where
+pub record CountsWindow (version : Version) (boards start end : ℕ) (window before : List ℕ) (answer : Result ℕ Refusal) (after moved : List ℕ) : Type 0 where
   pub counts : Counts version boards (window_part start end window) before answer after
   pub kept : moved ≡ overwrite window 0 (left_of (read version boards (window_part start end window)))

@@ -4,12 +4,12 @@ use Rattle.captures.specs.Form.{Record, packet_at}
 use Rattle.captures.specs.Reading.{Reading, left, wrong, item, read, records_of}
 use Rattle.captures.specs.Statements.{joined}
 use Rattle.captures.specs.declared.Version.{Version}
-use Rattle.counts.specs.Judging.{judged}
+use Rattle.counts.specs.Judging.{judged_number}
 use Rattle.counts.specs.Counting.{numbers_per_board, place_of, count_limit, count_of, counted, left_of}
 
 -- each number has room for its count: it is 0 to 10
 abbrev pub NumbersBounded : Type 0
-NumbersBounded = (direction : ℕ) (packet : List ℕ) → judged direction packet < numbers_per_board
+NumbersBounded = (direction : ℕ) (packet : List ℕ) → judged_number direction packet < numbers_per_board
 
 -- no counts yet
 abbrev pub zeros : ℕ → List ℕ

@@ -1,21 +1,13 @@
 // Counts the records of a capture.
 ghost use Rattle.std.specs.Prelude.{◌≡◌, ◌+◌, ◌*◌, set, get_or};
-ghost use Rattle.counts.specs.Counting.{numbers_per_board, more, ending_number, Counts};
+ghost use Rattle.counts.specs.Counting.{numbers_per_board, more, refusal_at_end, Counts};
 
 use captures::Version;
 use captures::reading::NextRecord;
+use refusals::Refusal;
 
 // The numbers of packets, 0 to 10, have so many counts for each board.
 pub const NUMBERS: usize = 11;
-
-// How the records of some bytes end.
-#[derive(Clone, Copy)]
-pub enum Ending {
-    // With so many bytes left, the start of a record: refusal 53, where there are any and no more come.
-    Left(usize),
-    // Refusal 53: at a field outside its range.
-    Wrong,
-}
 
 // Where a number is counted.
 fn place(index: u16, number: u8) -> usize
@@ -33,16 +25,22 @@ fn count_one(counts: &mut [u64], at: usize)
     }
 }
 
-// Counts the records of these bytes of a capture of this version and of so many boards, and says how they end.
-pub fn count(counts: &mut [u64], bytes: &[u8], version: Version, boards: u16) -> Ending
+// Counts the records of these bytes of a capture of this version and of so many boards. `Ok` tells how many bytes are left, the start
+// of a record: refusal 53, where there are any and no more come. `Err` is refusal 53, at a field outside its range.
+pub fn count(
+    counts: &mut [u64],
+    bytes: &[u8],
+    version: Version,
+    boards: u16,
+) -> Result<usize, Refusal>
     ensures { Counts version boards bytes.now counts.old result counts.new }
 {
     let mut rest = bytes;
     loop {
         match captures::reading::next_record(rest, version, boards) {
-            NextRecord::End => return Ending::Left(0),
-            NextRecord::Cut => return Ending::Left(rest.len()),
-            NextRecord::Wrong => return Ending::Wrong,
+            NextRecord::End => return Ok(0),
+            NextRecord::Cut => return Ok(rest.len()),
+            NextRecord::Wrong => return Err(Refusal::WrongRecord),
             NextRecord::Record {
                 index,
                 direction,
@@ -50,23 +48,21 @@ pub fn count(counts: &mut [u64], bytes: &[u8], version: Version, boards: u16) ->
                 packet,
                 rest: after,
             } => {
-                let number = super::judging::judge(direction, block::part(rest, packet, after));
-                count_one(counts, place(index, number));
+                let refusal = super::judging::judge(direction, block::part(rest, packet, after));
+                count_one(counts, place(index, refusals::number_or_zero(refusal)));
                 rest = block::part(rest, after, 0);
             }
         }
     }
 }
 
-// The number of the refusal, 0 for none, where no more bytes come.
-pub fn ending_number(ending: Ending) -> u8
-    ensures { result ≡ ending_number ending }
+// The refusal, where no more bytes come.
+pub fn refusal_at_end(ending: Result<usize, Refusal>) -> Option<Refusal>
+    ensures { result ≡ refusal_at_end ending }
 {
-    let Ending::Left(size) = ending else {
-        return 53;
-    };
-    if size == 0 {
-        return 0;
+    match ending {
+        Ok(0) => None,
+        Ok(_) => Some(Refusal::WrongRecord),
+        Err(refusal) => Some(refusal),
     }
-    53
 }

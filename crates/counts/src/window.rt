@@ -3,14 +3,14 @@ ghost use Rattle.std.specs.Prelude.{◌≡◌, take};
 ghost use Rattle.octets.specs.Octets.{overwrite};
 ghost use Rattle.counts.specs.Counting.{last_of, CountsWindow};
 
-use super::counting::Ending;
 use captures::Version;
+use refusals::Refusal;
 
 // Moves the bytes that are left, the last of the first `end`, to the start of a window; nothing where there are not so many.
-pub fn keep(window: &mut [u8], end: usize, ending: Ending)
+pub fn keep(window: &mut [u8], end: usize, ending: Result<usize, Refusal>)
     ensures { window.new ≡ overwrite window.old 0 (last_of ending (take end window.old)) }
 {
-    let Ending::Left(left) = ending else {
+    let Ok(left) = ending else {
         return;
     };
     let until = octets::first_bytes(window, end).len();
@@ -28,7 +28,7 @@ pub fn count_window(
     end: usize,
     version: Version,
     boards: u16,
-) -> Ending
+) -> Result<usize, Refusal>
     ensures { CountsWindow version boards start end window.old counts.old result counts.new window.new }
 {
     let filled = octets::first_bytes(window, end);
