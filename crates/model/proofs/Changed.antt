@@ -3,6 +3,7 @@ use Prim.Native.Nat.{ℕ, ◌-◌}
 use mathlib.Core.Bool.{Bool, true, false, cond, not, ◌&&◌, ◌||◌, and-false, and-true, or-true}
 use mathlib.Core.List.{List, [], ◌∷◌, ◌++◌, append_assoc}
 use mathlib.Core.Option.{Option, none, some, get_or}
+use Rattle.std.specs.Prelude.{Option as OptionInCode, None, Some}
 use mathlib.Core.Logic.{⊎_elim}
 use mathlib.Core.Path.{◌≡◌, refl, sym, ap, subst, ◌∙◌}
 use borrow.Author.Tests.{eq-eqb, ne_eqb, eqb-true, not-true, not-false}
@@ -67,7 +68,7 @@ command_done p c =
         (writes raises lowers : Bool)
         → cond writes (after (Write c.value) p.store (command_number c))
         (cond raises (after Raise p.store (command_number c)) (cond lowers (after Lower p.store (command_number c)) p.store))
-        ≡ done (cond writes (some (Write c.value)) (cond raises (some Raise) (cond lowers (some Lower) none))) p.store (command_number c)
+        ≡ done (cond writes (Some (Write c.value)) (cond raises (Some Raise) (cond lowers (Some Lower) None))) p.store (command_number c)
     by_function true raises lowers = refl
     by_function false true lowers = refl
     by_function false false true = refl
@@ -157,13 +158,13 @@ same_identity board p e = record { id = refl; password = refl; size = refl; mode
 -- what a row's operation and a write of the schedule keep, a command keeps
 pub on_command :
     (P : Parameters → Type 0) (p : Parameters) (c : Command) → P p
-    → ((operation : Operation) → operation_of c ≡ some operation → P (parameters_of (after operation p.store (command_number c)) p.schedule))
+    → ((operation : Operation) → operation_of c ≡ Some operation → P (parameters_of (after operation p.store (command_number c)) p.schedule))
     → (is_schedule p c ≡ true → is_write c ≡ true → P (parameters_of p.store (written p.schedule c.value))) → P (after_command p c)
 on_command P p c unchanged changed entered = rw command_done (by_number (is_schedule p c) refl)
   where
-    by_operation : (o : Option Operation) → operation_of c ≡ o → P (parameters_of (done o p.store (command_number c)) p.schedule)
-    by_operation none e = unchanged
-    by_operation (some operation) e = changed operation e
+    by_operation : (o : OptionInCode Operation) → operation_of c ≡ o → P (parameters_of (done o p.store (command_number c)) p.schedule)
+    by_operation None e = unchanged
+    by_operation (Some operation) e = changed operation e
 
     by_write : is_schedule p c ≡ true → (writes : Bool) → is_write c ≡ writes → P (parameters_of p.store (cond writes (written p.schedule c.value) p.schedule))
     by_write h true e = entered h e
@@ -375,7 +376,7 @@ schedule_row operation store n h = ap (stored_in store n) (by operation)
     no_row_lem : row_of store.unit n ≡ row_of 2 schedule_number
     no_row_lem = λ i. row_of (eqb-true store.unit 2 both.0 i) (eqb-true n schedule_number both.1 i)
 
-    by : (o : Operation) → new_value o store n ≡ none
+    by : (o : Operation) → new_value o store n ≡ None
     by (Write v) = rw no_row_lem
     by Raise = rw no_row_lem
     by Lower = rw no_row_lem
@@ -385,9 +386,9 @@ row_done :
     (p : Parameters) (c : Command) → (after_command p c).store ≡ done (operation_of c) p.store (command_number c)
 row_done p c = ap (λ (q : Parameters). q.store) (command_done p c) ∙ by_number (is_schedule p c) refl
   where
-    untouched : is_schedule p c ≡ true → (o : Option Operation) → p.store ≡ done o p.store (command_number c)
-    untouched named none = refl
-    untouched named (some operation) = sym (schedule_row operation p.store (command_number c) named)
+    untouched : is_schedule p c ≡ true → (o : OptionInCode Operation) → p.store ≡ done o p.store (command_number c)
+    untouched named None = refl
+    untouched named (Some operation) = sym (schedule_row operation p.store (command_number c) named)
 
     by_number :
         (is_schedule_lem : Bool) → is_schedule p c ≡ is_schedule_lem
@@ -549,7 +550,7 @@ measured_value c e =
     let sized : Sized c.board.parameters = (sound_parts c.board (not-false _ seventy.0)).sized in
     let row : measurable (unit_of c.board) c.number ≡ true = not-false _ thirty.0 in
     let size : eqb (length c.value) (size_of (row_of (unit_of c.board) c.number).set) ≡ true = not-false _ thirty_one.0 in
-    let stored : new_value (Measure c.value) c.board.parameters.store c.number ≡ some c.value = rw (row, size) in
+    let stored : new_value (Measure c.value) c.board.parameters.store c.number ≡ Some c.value = rw (row, size) in
     ap (λ (o : Option Refusal). value_of (measured_by o c).parameters.store c.number) e
     ∙ read_back (Measure c.value) c.board.parameters.store c.number c.value sized.store stored
 

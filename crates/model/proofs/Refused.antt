@@ -39,7 +39,7 @@ use Rattle.model.specs.declared.Answer.TheVariants as answer
 module _ {Asked : Type 0} where
   pub first_earliest : (rows : List (Rule Asked)) (asked : Asked) {refusal : Refusal} → first_refusal rows asked ≡ some refusal → Earliest rows asked refusal
   unfolding first_refusal
-  first_earliest [] asked e = let impossible : ◌≡◌ {A = ℕ} 0 1 = cc in absurd (omega arith)
+  first_earliest [] asked e = absurd cc
   first_earliest (row ∷ rows) asked {refusal} e = decided (row.applies asked) refl e (first_earliest rows asked)
     where
       decided :
@@ -71,12 +71,12 @@ numbered = record { packet = refl; discovery = refl; measurement = refl; set_up 
 
 -- the answers of set-up and measurement
 verdict_refusal : (o : Option Refusal) {refusal : Refusal} → verdict_of o ≡ Err refusal → o ≡ some refusal
-verdict_refusal none e = let impossible : ◌≡◌ {A = ℕ} 0 1 = cc in absurd (omega arith)
+verdict_refusal none e = absurd cc
 verdict_refusal (some r) e = cc
 
 verdict_none : (o : Option Refusal) → verdict_of o ≡ Ok tt → o ≡ none
 verdict_none none e = refl
-verdict_none (some r) e = let impossible : ◌≡◌ {A = ℕ} 0 1 = cc in absurd (omega arith)
+verdict_none (some r) e = absurd cc
 
 module _ {Asked : Type 0} (rows : List (Rule Asked)) (asked : Asked) where
   refused_exactly : (refusal : Refusal) → (verdict_of (first_refusal rows asked) ≡ Err refusal) ↔ Earliest rows asked refusal
@@ -110,8 +110,8 @@ set_ups_answered given =
 reports_no_refusal :
     (reports : List Report) (r : Request) (buffer : List ℕ) {refusal : Refusal}
     → (answer_with reports r buffer).answer ≡ answer.Refused refusal → ⊥
-reports_no_refusal [] r buffer e = let impossible : ◌≡◌ {A = ℕ} 0 1 = cc in omega arith
-reports_no_refusal (report ∷ reports) r buffer e = let impossible : ◌≡◌ {A = ℕ} 0 1 = cc in omega arith
+reports_no_refusal [] r buffer e = cc
+reports_no_refusal (report ∷ reports) r buffer e = cc
 
 answer_refusal : (o : Option Refusal) (r : Request) (buffer : List ℕ) {refusal : Refusal} → (outcome_by o r buffer).answer ≡ answer.Refused refusal → o ≡ some refusal
 answer_refusal none r buffer e = absurd (reports_no_refusal (reports_of r) r buffer e)
@@ -139,7 +139,7 @@ answered_by c passed (report ∷ reports) r e =
     let whole : 0 + length packet ≡ length packet = omega arith in
     inr
     (record {
-      reports = λ none_left. let impossible : ◌≡◌ {A = ℕ} 0 1 = cc in omega arith;
+      reports = λ none_left. cc;
       size = length packet;
       answer = ap (λ (o : Outcome). o.answer) e;
       sent = rw filled (take_at packet _ (length packet) refl);
@@ -158,8 +158,8 @@ none_refused c other = by_refusal (step_refusal c) refl
     by_refusal (some refusal) e = absurd (other refusal (ap (λ (o : Outcome). o.answer) (step_refused c e)))
 
 pub answered_none : (c : Call) → Silent c ⊎ Responds c → step_refusal c ≡ none
-answered_none c (inl silent) = none_refused c (λ refusal e. let impossible : ◌≡◌ {A = ℕ} 0 1 = cc silent.answer in omega arith)
-answered_none c (inr responds) = none_refused c (λ refusal e. let impossible : ◌≡◌ {A = ℕ} 0 1 = cc responds.answer in omega arith)
+answered_none c (inl silent) = none_refused c (λ refusal e. cc silent.answer)
+answered_none c (inr responds) = none_refused c (λ refusal e. cc responds.answer)
 
 pub none_answered : (c : Call) → step_refusal c ≡ none → Silent c ⊎ Responds c
 none_answered c e = answered_by c (passed_step c e) (reports_of (request c)) refl (step_answered c e)
@@ -186,7 +186,7 @@ addressed :
     → (own || access && default) ≡ true → (not (own || default) ≡ false) × ((searches && default) ≡ false)
 addressed true default access searches other apart h = (refl, ap (λ (d : Bool). searches && d) (other refl) ∙ and-false searches)
 addressed false default true searches other apart h = (ap not h, ap (λ (s : Bool). s && default) (apart refl))
-addressed false default false searches other apart h = let impossible : ◌≡◌ {A = ℕ} 0 1 = cc in absurd (omega arith)
+addressed false default false searches other apart h = absurd cc
 
 authorized_passes : (c : Call) → Authorized c → step_refusal c ≡ none
 unfolding or_else

@@ -1,6 +1,5 @@
 -- The refusal of a packet by its conditions, and what it makes of the packet.
 use Prim.Native.Nat.{ℕ}
-use native.Mathlib.Omega.{arith}
 use mathlib.Core.Bool.{Bool, true, false, cond, not}
 use mathlib.Core.List.{List, [], ◌∷◌}
 use mathlib.Core.Option.{Option, none, some, or_else}
@@ -22,7 +21,7 @@ use Rattle.model.specs.declared.Board.{Board}
 -- no refusal: the option is empty
 pub no_refusal : (refusal : Option Refusal) → not (is_some refusal) ≡ true → refusal ≡ none
 no_refusal none h = refl
-no_refusal (some found) h = let impossible : ◌≡◌ {A = ℕ} 0 1 = cc in absurd (omega arith)
+no_refusal (some found) h = absurd cc
 
 -- those of the packet's bytes, then those of its frame
 after_one : (c : Call) → first_refusal (drop 2 step_refusals) c ≡ or_else (packet_refusal c.packet) (first_refusal request_refusals (request c))
