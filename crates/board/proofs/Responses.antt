@@ -160,7 +160,7 @@ written_block : (bytes : List ℕ) → take (0 + length bytes) (overwrite (repli
 written_block bytes = take_at bytes (drop (0 + length bytes) (replicate 232 0)) (0 + length bytes) (sym (zero-add (length bytes)))
 
 some_commands : (o : Maybe (List Command)) → not (is_some o) ≡ false → (cs : List Command) × (o ≡ some cs)
-some_commands none h = let impossible : ◌≡◌ {A = ℕ} 0 1 = cc in absurd (omega arith)
+some_commands none h = absurd cc
 some_commands (some cs) h = (cs, refl)
 
 module _ (r : Request) (buffer : List ℕ) (legal : sound r.board ≡ true) (short : length r.frame.password ≤ 8) (room : 256 ≤ length buffer) where
