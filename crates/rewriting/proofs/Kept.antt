@@ -2,11 +2,13 @@
 use Prim.Native.Nat.{ℕ, ◌+◌}
 use mathlib.Core.Bool.{Bool, true, false, cond}
 use mathlib.Core.List.{List, ◌++◌}
-use mathlib.Core.Option.{Option, none, some, or_else, get_or}
+use mathlib.Core.Option.{Option, none, some, or_else}
 use mathlib.Core.Path.{◌≡◌, refl, sym, ap, ◌∙◌}
 use lib.ListN.{length, take, drop}
 use lib.Seq.{take_at}
 use Rattle.octets.specs.Octets.{overwrite}
+use Rattle.refusals.specs.declared.Refusal.{Refusal}
+use Rattle.refusals.specs.declared.Refusal.TheVariants.{NoSpace, WrongRecord}
 use Rattle.framing.proofs.Refusals.{both_none}
 use Rattle.captures.specs.Form.{newest, capture_bytes}
 use Rattle.captures.specs.Reading.{version_of, reading_of, records_of, wrong_record, head_refusal, records_as}
@@ -15,8 +17,9 @@ use Rattle.captures.specs.Writing.{buffer_as}
 use Rattle.captures.proofs.Pieces.{head_front, ids_front, read_front}
 use Rattle.captures.proofs.Rewriting.{rewrites_hold}
 use Rattle.captures.proofs.Told.{refusal_then}
-use Rattle.rewriting.specs.Rewriting.{rewritten, rewritten_as, rewritten_number}
+use Rattle.rewriting.specs.Rewriting.{rewritten, rewritten_as, rewritten_refusal}
 use Rattle.rewriting.specs.Statements.{RewriteKeeps, RewriteTells, PiecesRewritten}
+use Rattle.rewriting.specs.declared.Rewritten.TheVariants.{Whole, Part}
 use Rattle.rewriting.proofs.Outcomes.{refusal_as}
 
 first_put : (buffer bytes : List ℕ) → take (length bytes) (overwrite buffer 0 bytes) ≡ bytes
@@ -37,20 +40,22 @@ rewrite_keeps call answer after small accepted done =
       records_kept = back.records_back;
     }
 
-number_by : (refused : Option ℕ) (capture : List ℕ) → head_refusal capture ≡ refused → rewritten_number (rewritten_as (or_else refused none) capture) ≡ get_or (or_else refused (cond (wrong_record (reading_of capture)) (some 53) none)) 0
+told_by :
+    (refused : Option Refusal) (capture : List ℕ)
+    → rewritten_refusal (rewritten_as (or_else refused none) capture) ≡ or_else refused (cond (wrong_record (reading_of capture)) (some WrongRecord) none)
 unfolding or_else
-number_by (some number) capture e = refl
-number_by none capture e = by_record (wrong_record (reading_of capture)) refl
+told_by (some refusal) capture = refl
+told_by none capture = by_record (wrong_record (reading_of capture))
   where
-    by_record : (wrong : Bool) → wrong_record (reading_of capture) ≡ wrong → rewritten_number (rewritten_as none capture) ≡ get_or (cond wrong (some 53) none) 0
-    by_record true e = rw e
-    by_record false e = rw e
+    by_record : (wrong : Bool) → rewritten_refusal (cond wrong (Part (length (rewritten capture))) (Whole (length (rewritten capture)))) ≡ cond wrong (some WrongRecord) none
+    by_record true = refl
+    by_record false = refl
 
 pub rewrite_tells : RewriteTells
 rewrite_tells call roomy =
-    ap (λ o. rewritten_number (rewritten_as o call.capture)) (refusal_as call ∙ ap (λ (short : Bool). or_else (head_refusal call.capture) (cond short (some 54) none)) roomy)
-    ∙ number_by (head_refusal call.capture) call.capture refl
-    ∙ sym (ap (λ o. get_or o 0) (refusal_then call.capture))
+    ap (λ o. rewritten_refusal (rewritten_as o call.capture)) (refusal_as call ∙ ap (λ (short : Bool). or_else (head_refusal call.capture) (cond short (some NoSpace) none)) roomy)
+    ∙ told_by (head_refusal call.capture) call.capture
+    ∙ sym (refusal_then call.capture)
 
 pub pieces_rewritten : PiecesRewritten
 pieces_rewritten front pieces long right =

@@ -1,12 +1,15 @@
 -- Rewriting a capture in the newest version: the bytes, or the refusal.
-use Rattle.std.specs.Prelude.{ℕ, cond, List, [], ◌∷◌, ◌++◌, map, ◌≡◌, ltb, length}
+use Rattle.std.specs.Prelude.{ℕ, cond, List, [], ◌∷◌, ◌++◌, Option as OptionInCode, None, Some, map, ◌≡◌, ltb, length}
 use Rattle.std.proofs.Math.Option.{Option, none, some}
-use Rattle.framing.specs.Refusal.{Refusal, refusal, refusal_of, first_refusal}
+use Rattle.framing.specs.Refusal.{Rule, rule, rule_of, first_refusal}
+use Rattle.refusals.specs.Refusals.{number_of}
+use Rattle.refusals.specs.declared.Refusal.{Refusal}
+use Rattle.refusals.specs.declared.Refusal.TheVariants.{NoSpace, WrongRecord}
 use Rattle.captures.specs.Form.{newest, records_bytes, head_bytes, capture_bytes}
 use Rattle.captures.specs.Reading.{Reading, reading_of, records_of, wrong_record, head_refusals, ids_in, records_in}
 use Rattle.captures.specs.Writing.{buffer_as, too_short}
-use Rattle.rewriting.specs.declared.Fitted.{Fitted}
-use Rattle.rewriting.specs.declared.Fitted.TheVariants as fits
+use Rattle.rewriting.specs.declared.Extent.{Extent}
+use Rattle.rewriting.specs.declared.Extent.TheVariants as extent
 use Rattle.rewriting.specs.declared.Rewritten.{Rewritten}
 use Rattle.rewriting.specs.declared.Rewritten.TheVariants.{Whole, Part, Refused}
 
@@ -33,28 +36,36 @@ abbrev pub capture_of : RewriteCall → List ℕ
 capture_of call = call.capture
 
 -- 50, 51, 52, 54
-unfoldable pub rewrite_refusals : List (Refusal RewriteCall)
+unfoldable pub rewrite_refusals : List (Rule RewriteCall)
 rewrite_refusals =
-    map (refusal_of capture_of) head_refusals ++ refusal 54 (λ (call : RewriteCall). too_short call.buffer (rewritten call.capture)) ∷ []
+    map (rule_of capture_of) head_refusals ++ rule NoSpace (λ (call : RewriteCall). too_short call.buffer (rewritten call.capture)) ∷ []
 
-unfoldable pub rewrite_refusal : RewriteCall → Option ℕ
+unfoldable pub rewrite_refusal : RewriteCall → Option Refusal
 rewrite_refusal call = first_refusal rewrite_refusals call
 
--- the answer: the length of the bytes of all of the capture, or of a part where 53 refuses it, or the number of the refusal
-abbrev pub rewritten_as : Option ℕ → List ℕ → Rewritten
+-- the answer: the length of the bytes of all of the capture, or of a part where 53 refuses it, or the refusal
+abbrev pub rewritten_as : Option Refusal → List ℕ → Rewritten
 rewritten_as none capture = cond (wrong_record (reading_of capture)) (Part (length (rewritten capture))) (Whole (length (rewritten capture)))
-rewritten_as (some number) capture = Refused number
+rewritten_as (some refusal) capture = Refused refusal
+
+-- the refusal that an answer tells of, if any
+abbrev pub rewritten_refusal : Rewritten → Option Refusal
+rewritten_refusal (Whole length) = none
+rewritten_refusal (Part length) = some WrongRecord
+rewritten_refusal (Refused refusal) = some refusal
+
+abbrev pub number_told : Option Refusal → ℕ
+number_told none = 0
+number_told (some refusal) = number_of refusal
 
 abbrev pub rewritten_number : Rewritten → ℕ
-rewritten_number (Whole length) = 0
-rewritten_number (Part length) = 53
-rewritten_number (Refused number) = number
+rewritten_number answer = number_told (rewritten_refusal answer)
 
 -- the contract of `rewrite`
 pub record Rewrites (call : RewriteCall) (answer : Rewritten) (after : List ℕ) : Type 0 where
   pub answered : answer ≡ rewritten_as (rewrite_refusal call) call.capture
   pub held : after ≡ buffer_as (rewrite_refusal call) call.buffer (rewritten call.capture)
 
--- whether what was read has room
-abbrev pub fitted : ℕ → Reading → Fitted
-fitted room reading = cond (ltb room (length (records_read reading))) fits.NoRoom (cond (wrong_record reading) fits.Part fits.Whole)
+-- how much of a capture was read, where that has room
+unfoldable pub fitted : ℕ → Reading → OptionInCode Extent
+fitted room reading = cond (ltb room (length (records_read reading))) None (Some (cond (wrong_record reading) extent.Part extent.Whole))

@@ -1,12 +1,12 @@
 -- What holds of rewriting, beside the contract.
 use Rattle.std.specs.Prelude.{ℕ, ◌≤◌, false, List, ◌++◌, ◌≡◌, length, take}
-use Rattle.std.proofs.Math.Option.{none, get_or}
+use Rattle.std.proofs.Math.Option.{none}
 use Rattle.captures.specs.Form.{newest}
 use Rattle.captures.specs.Numbers.{Bytes}
 use Rattle.captures.specs.Reading.{version_of, board_count, reading_of, head_refusal, capture_refusal, ids_in, records_in}
 use Rattle.captures.specs.Statements.{resumed_by, joined, longest_head}
 use Rattle.captures.specs.Writing.{too_short}
-use Rattle.rewriting.specs.Rewriting.{bytes_read, rewritten, RewriteCall, rewrite_refusal, rewritten_as, rewritten_number, Rewrites}
+use Rattle.rewriting.specs.Rewriting.{bytes_read, rewritten, RewriteCall, rewrite_refusal, rewritten_as, rewritten_refusal, Rewrites}
 use Rattle.rewriting.specs.declared.Rewritten.{Rewritten}
 
 -- what a call leaves in its buffer is read back: the IDs and the records of the capture
@@ -26,7 +26,7 @@ RewriteKeeps =
 abbrev pub RewriteTells : Type 0
 RewriteTells =
     (call : RewriteCall) → too_short call.buffer (rewritten call.capture) ≡ false
-    → rewritten_number (rewritten_as (rewrite_refusal call) call.capture) ≡ get_or (capture_refusal call.capture) 0
+    → rewritten_refusal (rewritten_as (rewrite_refusal call) call.capture) ≡ capture_refusal call.capture
 
 -- however a capture is cut into pieces, of which the first has its head: the head of its IDs, and the records as they are read in turn
 abbrev pub PiecesRewritten : Type 0
