@@ -7,6 +7,7 @@ use mathlib.Core.Option.{none, some}
 use mathlib.Core.Path.{◌≡◌, refl, sym, ap, ◌∙◌}
 use borrow.Author.Tests.{ne_eqb}
 use lib.ListN.{length, drop, length-drop, length-replicate}
+use Rattle.std.specs.Prelude.{Option, None, Some, Result, Ok, Err}
 use Rattle.framing.proofs.Refusals.{refused_then, passed_then}
 use Rattle.captures.specs.Form.{newest, Record, board_limit}
 use Rattle.captures.specs.Reading.{version_of, Reading, read, reading_of, records_of, wrong_record, records_as, capture_refusal, opened_of}
@@ -14,14 +15,17 @@ use Rattle.captures.proofs.Readings.{of_readings}
 use Rattle.captures.proofs.Opening.{head_refused, accepted_as, reading_same}
 use Rattle.captures.proofs.Told.{refusal_then}
 use Rattle.captures.specs.declared.Version.{Version}
-use Rattle.captures.specs.declared.reading.Opened.TheVariants as opened
+use Rattle.captures.specs.declared.reading.Head.{Head}
+use Rattle.refusals.specs.Refusals.{number_of, number_or_zero}
+use Rattle.refusals.specs.declared.Refusal.{Refusal}
+use Rattle.refusals.specs.declared.Refusal.TheVariants.{WrongRecord}
+use Rattle.refusals.proofs.Distinct.{numbers_above_zero}
 use Rattle.tool.specs.Listing.{refused_line}
-use Rattle.counts.specs.Counting.{numbers_per_board, place_of, count_limit, count_of, counted, end_of, ending_number, Counts}
-use Rattle.counts.specs.declared.counting.Ending.{Ending}
+use Rattle.counts.specs.Counting.{numbers_per_board, place_of, count_limit, count_of, counted, end_of, refusal_at_end, Counts}
 use Rattle.summing.specs.Text.{each, pair_line, record_lines, refused_as, summary_of, line_at, lines_of, last_line, text_of}
 use Rattle.counts.specs.Statements.{zeros}
 use Rattle.summing.proofs.Each.{each_same, each_nothing, each_board}
-use Rattle.counts.proofs.Numbers.{head_some, ending_told}
+use Rattle.counts.proofs.Numbers.{ending_told}
 use Rattle.counts.proofs.Pairs.{length_counted, pairs_counted}
 
 -- a record takes a byte at the least
@@ -66,54 +70,57 @@ no_lines : record_lines [] ≡ []
 unfolding count_of
 no_lines = each_nothing (board_limit newest) (λ index. each_nothing numbers_per_board (λ number. refl))
 
--- how the head of a capture was opened
-module _ (capture : List ℕ) where
-  last_refused : {number : ℕ} → opened_of capture ≡ opened.Refused number → last_line number ≡ refused_line number
-  last_refused {number} e =
-      let Some-number = head_some capture (head_refused capture e) in
-      rw (ne_eqb number 0 (λ z. omega arith))
+-- the line of a refusal
+last_refused : (refusal : Refusal) → last_line (number_of refusal) ≡ refused_line (number_of refusal)
+last_refused refusal =
+    let some_number : 0 < number_of refusal = numbers_above_zero refusal in
+    rw (ne_eqb (number_of refusal) 0 (λ z. omega arith))
 
-  -- a refused head
-  pub summary_refused : {number : ℕ} → opened_of capture ≡ opened.Refused number → summary_of capture ≡ refused_line number
-  summary_refused {number} e =
+-- a refused head
+module _ (capture : List ℕ) {refusal : Refusal} (e : opened_of capture ≡ Err refusal) where
+  pub summary_refused : summary_of capture ≡ refused_line (number_of refusal)
+  summary_refused =
       let head = head_refused capture e in
       (λ i. record_lines (records_as (version_of capture) (head i) capture) ++ refused_as ((refusal_then capture ∙ refused_then _ head) i))
-      ∙ ap (λ (lines : List ℕ). lines ++ refused_line number) no_lines
+      ∙ ap (λ (lines : List ℕ). lines ++ refused_line (number_of refusal)) no_lines
 
-  pub refused_shown : {number : ℕ} → opened_of capture ≡ opened.Refused number → text_of [] number ≡ summary_of capture
+  pub refused_shown : text_of [] (number_of refusal) ≡ summary_of capture
   unfolding lines_of each
-  refused_shown e = last_refused e ∙ sym (summary_refused e)
+  refused_shown = last_refused refusal ∙ sym summary_refused
 
 -- the last line is that of 53, where the reading ended in it
-last_by : (wrong : Bool) → last_line (cond wrong 53 0) ≡ refused_as (cond wrong (some 53) none)
+last_by : (wrong : Bool) → last_line (number_or_zero (cond wrong (Some WrongRecord) None)) ≡ refused_as (cond wrong (some WrongRecord) none)
 last_by true = refl
 last_by false = refl
 
-ending_last : (r : Reading) → last_line (ending_number (end_of r)) ≡ refused_as (cond (wrong_record r) (some 53) none)
-ending_last r = ap last_line (ending_told r) ∙ last_by (wrong_record r)
+ending_last : (r : Reading) → last_line (number_or_zero (refusal_at_end (end_of r))) ≡ refused_as (cond (wrong_record r) (some WrongRecord) none)
+ending_last r = ap (λ o. last_line (number_or_zero o)) (ending_told r) ∙ last_by (wrong_record r)
 
 -- an accepted head, and the records after it
-pub summary_counted :
-    (capture : List ℕ) {version : Version} {boards ids records : ℕ} → opened_of capture ≡ opened.Capture version boards ids records
-    → length (records_of (read version boards (drop records capture))) ≤ count_limit
-    → text_of (counted none_yet (records_of (read version boards (drop records capture)))) (ending_number (end_of (read version boards (drop records capture)))) ≡ summary_of capture
-summary_counted capture {version} {boards} {ids} {records} e few =
-    let told = accepted_as capture e in
-    let same = reading_same capture e in
-    let refused : capture_refusal capture ≡ cond (wrong_record (reading_of capture)) (some 53) none = refusal_then capture ∙ passed_then _ told.accepted in
-    (λ i. counted_lines (records_of (read version boards (drop records capture))) few i ++ ending_last (read version boards (drop records capture)) i)
-    ∙ (λ i. record_lines (records_of (same i)) ++ refused_as (cond (wrong_record (same i)) (some 53) none))
-    ∙ (λ i. record_lines (records_as (version_of capture) (sym told.accepted i) capture) ++ refused_as (sym refused i))
+module _ (capture : List ℕ) {head : Head} (e : opened_of capture ≡ Ok head) where
+  abbrev stands : Reading
+  stands = read head.version head.boards (drop head.records capture)
 
--- as `count` counted them
-pub summary_shown :
-    (capture : List ℕ) {version : Version} {boards ids records : ℕ} → opened_of capture ≡ opened.Capture version boards ids records → length capture ≤ count_limit
-    → {bytes : List ℕ} → bytes ≡ drop records capture → {counts : List ℕ} {ending : Ending} → Counts version boards bytes none_yet ending counts
-    → {number : ℕ} → number ≡ ending_number ending → text_of counts number ≡ summary_of capture
-summary_shown capture {version} {boards} {ids} {records} e short {bytes} at {counts} {ending} done {number} told =
-    let few : length (records_of (read version boards (drop records capture))) ≤ count_limit =
-    omega (arith, records_few version boards (drop records capture), length-drop records capture) in
-    let same : read version boards bytes ≡ read version boards (drop records capture) = ap (read version boards) at in
-    (λ i. text_of ((done.held ∙ ap (λ (r : Reading). counted none_yet (records_of r)) same) i)
-    ((told ∙ ap ending_number (done.answered ∙ ap end_of same)) i))
-    ∙ summary_counted capture e few
+  pub summary_counted :
+      length (records_of stands) ≤ count_limit
+      → text_of (counted none_yet (records_of stands)) (number_or_zero (refusal_at_end (end_of stands))) ≡ summary_of capture
+  summary_counted few =
+      let told = accepted_as capture e in
+      let same = reading_same capture e in
+      let refused : capture_refusal capture ≡ cond (wrong_record (reading_of capture)) (some WrongRecord) none = refusal_then capture ∙ passed_then _ told.accepted in
+      (λ i. counted_lines (records_of stands) few i ++ ending_last stands i)
+      ∙ (λ i. record_lines (records_of (same i)) ++ refused_as (cond (wrong_record (same i)) (some WrongRecord) none))
+      ∙ (λ i. record_lines (records_as (version_of capture) (sym told.accepted i) capture) ++ refused_as (sym refused i))
+
+  -- as `count` counted them
+  pub summary_shown :
+      length capture ≤ count_limit → {bytes : List ℕ} → bytes ≡ drop head.records capture
+      → {counts : List ℕ} {ending : Result ℕ Refusal} → Counts head.version head.boards bytes none_yet ending counts
+      → {refusal : Option Refusal} → refusal ≡ refusal_at_end ending → text_of counts (number_or_zero refusal) ≡ summary_of capture
+  summary_shown short {bytes} at {counts} {ending} done {refusal} told =
+      let few : length (records_of stands) ≤ count_limit =
+      omega (arith, records_few head.version head.boards (drop head.records capture), length-drop head.records capture) in
+      let same : read head.version head.boards bytes ≡ stands = ap (read head.version head.boards) at in
+      (λ i. text_of ((done.held ∙ ap (λ (r : Reading). counted none_yet (records_of r)) same) i)
+      (number_or_zero ((told ∙ ap refusal_at_end (done.answered ∙ ap end_of same)) i)))
+      ∙ summary_counted few

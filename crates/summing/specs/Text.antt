@@ -1,10 +1,12 @@
 -- The summary of a capture: its text.
-use Rattle.std.specs.Prelude.{ℕ, zero, suc, ◌+◌, ◌-◌, ◌*◌, ◌/◌, ◌%◌, ◌≤◌, cond, Option as RustOption, Some, None, List, [], ◌∷◌, ◌++◌, ◌≡◌, leb, eqb, length, drop, get_or}
+use Rattle.std.specs.Prelude.{ℕ, zero, suc, ◌+◌, ◌-◌, ◌*◌, ◌/◌, ◌%◌, ◌≤◌, cond, Option as OptionInCode, Some, None, List, [], ◌∷◌, ◌++◌, ◌≡◌, leb, eqb, length, drop, get_or}
 use Rattle.std.proofs.Math.Option.{Option, none, some}
 use Rattle.octets.specs.Octets.{overwrite}
 use Rattle.numerals.specs.Numerals.{decimal}
 use Rattle.captures.specs.Form.{newest, Record, board_limit}
 use Rattle.captures.specs.Reading.{records_in, capture_refusal}
+use Rattle.refusals.specs.Refusals.{number_of}
+use Rattle.refusals.specs.declared.Refusal.{Refusal}
 use Rattle.tool.specs.Listing.{line_feed, refused_line}
 use Rattle.counts.specs.Counting.{numbers_per_board, count_of}
 use Rattle.summing.specs.declared.PairLine.{PairLine}
@@ -27,9 +29,9 @@ abbrev pub record_lines : List Record → List ℕ
 record_lines records =
     each (board_limit newest) (λ (index : ℕ). each numbers_per_board (λ (number : ℕ). pair_line index number (count_of records index number)))
 
-abbrev pub refused_as : Option ℕ → List ℕ
+abbrev pub refused_as : Option Refusal → List ℕ
 refused_as none = []
-refused_as (some number) = refused_line number
+refused_as (some refusal) = refused_line (number_of refusal)
 
 -- the summary of a capture
 abbrev pub summary_of : List ℕ → List ℕ
@@ -67,7 +69,7 @@ pub record Holds (line : List ℕ) (answer : PairLine) : Type 0 where
   pub held : drop answer.start answer.bytes ≡ line
 
 -- what is left of some room after a text
-abbrev pub room_after : ℕ → List ℕ → RustOption ℕ
+abbrev pub room_after : ℕ → List ℕ → OptionInCode ℕ
 room_after space text = cond (leb (length text) space) (Some (space - length text)) None
 
 -- lines put into the first bytes of a text

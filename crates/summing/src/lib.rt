@@ -1,13 +1,12 @@
 // Writes the counts of `counts` as text, and the summary of a capture: a line for each board and number that occurs.
 #![tactic(auto)]
 
-ghost use Rattle.std.specs.Prelude.{◌∷◌, [], ◌++◌, ◌≡◌, ◌≤◌, length};
+ghost use Rattle.std.specs.Prelude.{◌∷◌, [], ◌++◌, ◌≡◌, ◌≤◌, drop, length};
 ghost use Rattle.numerals.specs.Numerals.{decimal, Before};
 ghost use Rattle.tool.specs.Listing.{line_of, Shows};
 ghost use Rattle.summing.specs.Text.{pair_line, pair_at, lines_of, last_line, text_of, summary_of, Holds, room_after, WritesLines};
 
-use captures::reading::Opened;
-use tool::listing::{Line, Listed};
+use tool::listing::Line;
 
 // Room for the text of the counts of all boards: lines of up to 28 bytes, and that of a refusal.
 pub const LONGEST_TEXT: usize = captures::BOARD_LIMIT * counts::counting::NUMBERS * 28 + 11;
@@ -24,10 +23,9 @@ fn write_field(bytes: &mut [u8], end: usize, number: u64, mark: u8) -> usize
     let at = end - 1;
     bytes[at] = mark;
     let numeral = numerals::decimal(number);
-    let digits = numeral.bytes;
-    let first = numeral.start;
-    let start = at - (numerals::DIGITS - first);
-    octets::overwrite(bytes, start, &digits[first..]);
+    let digits = numeral.text();
+    let start = at - digits.len();
+    octets::overwrite(bytes, start, digits);
     start
 }
 
@@ -36,6 +34,14 @@ fn write_field(bytes: &mut [u8], end: usize, number: u64, mark: u8) -> usize
 struct PairLine {
     bytes: [u8; LONGEST_LINE],
     start: usize,
+}
+
+impl PairLine {
+    fn text(&self) -> &[u8]
+        ensures { result.now ≡ drop self.now.start self.now.bytes }
+    {
+        octets::bytes_after(&self.bytes, self.start)
+    }
 }
 
 // The line of a pair; no byte where it does not occur.
@@ -71,7 +77,7 @@ fn room_after(room: usize, counts: &[u64]) -> Option<usize>
     let mut left = room;
     for (place, count) in counts.iter().enumerate() {
         let line = line_at(place, *count);
-        left = left.checked_sub(LONGEST_LINE - line.start)?;
+        left = left.checked_sub(line.text().len())?;
     }
     Some(left)
 }
@@ -84,8 +90,9 @@ fn write_lines(text: &mut [u8], counts: &[u64]) -> usize
     let mut at: usize = 0;
     for (place, count) in counts.iter().enumerate() {
         let line = line_at(place, *count);
-        octets::overwrite(text, at, &line.bytes[line.start..]);
-        at += LONGEST_LINE - line.start;
+        let bytes = line.text();
+        octets::overwrite(text, at, bytes);
+        at += bytes.len();
     }
     at
 }
@@ -104,39 +111,31 @@ fn last_line(refusal: u8) -> Line
 }
 
 // Writes counts, and the line of a refusal where its number is not 0, into the first bytes of `text`; the rest stays.
-pub fn write(text: &mut [u8], counts: &[u64], refusal: u8) -> Listed
+pub fn write(text: &mut [u8], counts: &[u64], refusal: u8) -> Option<usize>
     ensures { Shows (text_of counts.now refusal) text.old result text.new }
 {
-    let Some(left) = room_after(text.len(), counts) else {
-        return Listed::NoRoom;
-    };
+    let left = room_after(text.len(), counts)?;
     let line = last_line(refusal);
-    let size = line.size;
-    if left < size {
-        return Listed::NoRoom;
+    if left < line.size {
+        return None;
     }
     let at = write_lines(text, counts);
-    let bytes = line.bytes;
-    octets::overwrite(text, at, &bytes[..size]);
-    Listed::Length(at + size)
+    octets::overwrite(text, at, &line.bytes[..line.size]);
+    Some(at + line.size)
 }
 
 // Writes the summary of a capture into the first bytes of `text`; the rest stays.
-pub fn summary(text: &mut [u8], capture: &[u8]) -> Listed
+pub fn summary(text: &mut [u8], capture: &[u8]) -> Option<usize>
     ensures { Shows (summary_of capture.now) text.old result text.new }
 {
-    let mut counts = [0u64; captures::BOARD_LIMIT * counts::counting::NUMBERS];
     match captures::reading::open(capture) {
-        Opened::Refused(number) => write(text, &counts[..0], number),
-        Opened::Capture {
-            version,
-            boards,
-            ids: _,
-            records,
-        } => {
-            let bytes = octets::bytes_after(capture, records);
-            let ending = counts::counting::count(&mut counts, bytes, version, boards);
-            write(text, &counts, counts::counting::ending_number(ending))
+        Ok(head) => {
+            let mut counts = [0u64; captures::BOARD_LIMIT * counts::counting::NUMBERS];
+            let bytes = octets::bytes_after(capture, head.records);
+            let ending = counts::counting::count(&mut counts, bytes, head.version, head.boards);
+            let refusal = counts::counting::refusal_at_end(ending);
+            write(text, &counts, refusals::number_or_zero(refusal))
         }
+        Err(refusal) => write(text, &[], refusal.number()),
     }
 }

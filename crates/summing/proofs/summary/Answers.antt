@@ -6,15 +6,14 @@ use Rattle.summing.proofs.Summaries.{refused_shown, summary_shown}
 use borrow.Author.Rules.{rules}
 use Rattle.summing.proofs.summary.Goals as goal
 
-pub returns-in-Refused : goal.returns-in-Refused
-returns-in-Refused c =
-    let capture = c.args.capture.now in
-    let refused = sym c.«open».ensures ∙ c.in-Refused.is in
-    rw (← refused_shown capture refused) c.write.ensures
+pub returns-in-Err : goal.returns-in-Err
+returns-in-Err c =
+    let refused = sym c.«open».ensures ∙ c.in-Err.is in
+    rw (← refused_shown c.args.capture.now refused, ← c.number.ensures) c.write-in-Err.ensures
 
-pub returns-in-Capture : goal.returns-in-Capture
-returns-in-Capture c =
+pub returns-in-Ok : goal.returns-in-Ok
+returns-in-Ok c =
     let capture = c.args.capture.now in
-    let accepted = sym c.«open».ensures ∙ c.in-Capture.is in
+    let accepted = sym c.«open».ensures ∙ c.in-Ok.is in
     let short : length capture ≤ count_limit = search rules in
-    rw (← summary_shown capture accepted short c.bytes_after-bytes.ensures c.count-ending.ensures c.ending_number.ensures) c.write-in-Capture.ensures
+    rw (← summary_shown capture accepted short c.bytes_after-bytes.ensures c.count-ending.ensures c.refusal_at_end-refusal.ensures, ← c.number_or_zero.ensures) c.write.ensures

@@ -15,7 +15,7 @@ returns c =
     let lines = lines_of c.args.counts.now in
     let last = last_line c.args.refusal in
     let size : c.last_line-line.result.size ≡ length last = ap (λ (line : Line). line.size) c.last_line-line.ensures in
-    let left = text_fits (length c.args.text.now) lines c.room_after.ensures c.in-Some.is in
-    let fit : length lines + length last ≤ length c.args.text.now = omega (arith, left, size, c.if-left-size.false) in
+    let left = text_fits (length c.args.text.now) lines c.room_after.ensures c.in_ok-left.was in
+    let fit : length lines + length last ≤ length c.args.text.now = omega (arith, left, size, c.if-left-line.false) in
     let line = line_held last c.last_line-line.ensures in
     both_shown c.args.text.now lines last fit c.write_lines-at.ensures (rw line at c.overwrite.ensures) size

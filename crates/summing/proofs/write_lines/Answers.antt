@@ -1,5 +1,5 @@
 use native.Mathlib.Omega.{arith}
-use Rattle.summing.proofs.Fields.{holds_size, holds_part}
+use mathlib.Core.Path.{◌∙◌}
 use Rattle.summing.proofs.Lines.{written_none, written_more, written_all}
 use Rattle.summing.proofs.write_lines.Goals as goal
 
@@ -9,9 +9,8 @@ loop-place-init c = written_none c.args.text.now c.args.counts.now
 pub loop-place-preserved : goal.loop-place-preserved
 loop-place-preserved c =
     let v = c.loop-place in
-    let line = c.line_at-line.ensures in
-    rw (holds_size line)
-    (written_more c.args.text.now c.args.counts.now v.invariant c.requires (omega arith) (rw (holds_part line) at c.overwrite.ensures))
+    let line = c.text-bytes.ensures ∙ c.line_at-line.ensures.held in
+    rw line (written_more c.args.text.now c.args.counts.now v.invariant c.requires (omega arith) (rw line at c.overwrite.ensures))
 
 pub returns : goal.returns
 returns c = written_all c.args.text.now c.args.counts.now c.loop-place.invariant (omega arith)
