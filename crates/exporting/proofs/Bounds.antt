@@ -19,6 +19,7 @@ use Rattle.numerals.proofs.Hex.{length_hex}
 use Rattle.tables.specs.Fields.{quoted}
 use Rattle.tables.specs.Rows.{Row, row_of, number_of, value_of, row_line, row_lines}
 use Rattle.tables.specs.Exporting.{id_of, is_response, reports_as, rows_from}
+use Rattle.refusals.specs.declared.Refusal.{Refusal}
 use Rattle.tool.specs.Response.{any_response_refusal, reports_of}
 use Rattle.tool.proofs.Bounds.{takes, all_take, reports_take}
 use Rattle.exporting.specs.Text.{record_lines, records_lines}
@@ -82,9 +83,9 @@ record_short ids r = by_direction (is_response r) refl
           block_within r.packet,
         )
 
-    by_refusal : r.direction ≡ 1 → (refused : Option ℕ) → Rows (reports_as refused r.packet)
+    by_refusal : r.direction ≡ 1 → (refused : Option Refusal) → Rows (reports_as refused r.packet)
     by_refusal response none = by_reports response (reports_of r.packet) refl
-    by_refusal response (some number) = omega arith
+    by_refusal response (some refusal) = omega arith
 
     by_direction : (t : Bool) → is_response r ≡ t → Rows (cond t (reports_as (any_response_refusal r.packet) r.packet) [])
     by_direction true e = by_refusal (eqb-true r.direction 1 e) (any_response_refusal r.packet)

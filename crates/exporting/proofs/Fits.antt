@@ -1,13 +1,15 @@
 -- What is left of some room after the rows of a capture's records, one record after another.
 use Prim.Native.Nat.{ℕ}
 use mathlib.Core.List.{List, []}
-use mathlib.Core.Path.{◌≡◌, sym, ap, ◌∙◌}
+use mathlib.Core.Logic.{◌⊎◌, inl, inr}
+use mathlib.Core.Path.{◌≡◌, refl, sym, ap, ◌∙◌}
 use Rattle.std.specs.Prelude.{Option, Some, None}
 use Rattle.block.specs.Reading.{part_of}
 use Rattle.captures.specs.Form.{record_of}
-use Rattle.captures.specs.Reading.{Reading, read, records_of, next_record}
+use Rattle.captures.specs.Reading.{Reading, left, wrong, read, records_of, next_record}
 use Rattle.captures.specs.declared.Version.{Version}
 use Rattle.captures.specs.declared.reading.NextRecord.TheVariants as next
+use Rattle.captures.proofs.Records.{read_by}
 use Rattle.exporting.specs.Text.{record_lines, room_after}
 use Rattle.exporting.proofs.Rooms.{none_after, room_none, room_on}
 use Rattle.exporting.proofs.Steps.{lines_read, none_read, first, lines_on}
@@ -18,8 +20,16 @@ module _
     (so_far : whole ≡ room_after space (lines_read ids (read version boards rest)))
   where
     -- no record is left
-    pub fits_all : (last : Reading) → read version boards rest ≡ last → records_of last ≡ [] → Some space ≡ whole
+    fits_all : (last : Reading) → read version boards rest ≡ last → records_of last ≡ [] → Some space ≡ whole
     fits_all last e none = none_after space (none_read version boards rest ids last e none) ∙ sym so_far
+
+    pub fits_end :
+        (next_record version boards rest ≡ next.End) ⊎ ((next_record version boards rest ≡ next.Cut) ⊎ (next_record version boards rest ≡ next.Wrong))
+        → Some space ≡ whole
+    unfolding records_of
+    fits_end (inl e) = fits_all (left []) (read_by version boards rest e) refl
+    fits_end (inr (inl e)) = fits_all (left rest) (read_by version boards rest e) refl
+    fits_end (inr (inr e)) = fits_all wrong (read_by version boards rest e) refl
 
     -- a record stands first, and its rows were asked
     module _

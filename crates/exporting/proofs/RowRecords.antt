@@ -8,12 +8,12 @@ use mathlib.Core.Path.{◌≡◌, ap}
 use borrow.Author.Tests.{le-leb, eq-eqb, ne_eqb}
 use lib.ListN.{length, take, drop, length-take}
 use lib.Seq.{take_at}
-use Rattle.std.specs.Prelude.{Some}
+use Rattle.std.specs.Prelude.{Some, Result, Ok, Err}
 use Rattle.octets.specs.Octets.{overwrite}
 use Rattle.captures.specs.Form.{record_of}
 use Rattle.tool.specs.Response.{any_response_refusal, any_response_of, reports_of}
-use Rattle.tool.specs.declared.response.Response.{Response}
-use Rattle.tool.specs.declared.response.Response.TheVariants.{Accepted, Refused}
+use Rattle.tool.specs.declared.response.Block.{Block}
+use Rattle.refusals.specs.declared.Refusal.{Refusal}
 use Rattle.framing.specs.Packet.{places_of}
 use Rattle.tool.proofs.Listings.{accepts, refused_as}
 use Rattle.numerals.proofs.Decimals.{decimal_short}
@@ -46,8 +46,8 @@ module _ (ids : List ℕ) (index direction counter : ℕ) (packet : List ℕ) wh
       let other = ne_eqb direction 1 h in
       record { lines = rw other; judged = rw other }
 
-  module _ (h : direction ≡ 1) {answer : Response} (e : answer ≡ any_response_of packet) where
-    pub refused_rows : {number : ℕ} → answer ≡ Refused number → Rows ids index direction counter packet [] true
+  module _ (h : direction ≡ 1) {answer : Result Block Refusal} (e : answer ≡ any_response_of packet) where
+    pub refused_rows : {refusal : Refusal} → answer ≡ Err refusal → Rows ids index direction counter packet [] true
     unfolding row_lines
     refused_rows k =
         let is = eq-eqb direction 1 h in
@@ -55,8 +55,8 @@ module _ (ids : List ℕ) (index direction counter : ℕ) (packet : List ℕ) wh
         record { lines = rw (is, told); judged = rw (is, told) }
 
     pub accepted_rows :
-        {block end : ℕ} → answer ≡ Accepted block end
-        → Rows ids index direction counter packet (left_text (row_start (id_of ids index) counter) 0 (take (end - block) (drop block packet))) false
+        {found : Block} → answer ≡ Ok found
+        → Rows ids index direction counter packet (left_text (row_start (id_of ids index) counter) 0 (take (found.end - found.block) (drop found.block packet))) false
     accepted_rows k =
         let is = eq-eqb direction 1 h in
         let known = accepts packet e k in

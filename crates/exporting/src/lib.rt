@@ -1,7 +1,7 @@
 // Writes the table of a capture, as `tables` defines it: whole into a lent buffer, or the rows of one window after another.
 #![tactic(auto)]
 
-ghost use Rattle.std.specs.Prelude.{◌≡◌, ◌+◌, ◌≤◌, length};
+ghost use Rattle.std.specs.Prelude.{◌≡◌, ◌+◌, ◌≤◌, Some, length};
 ghost use Rattle.octets.specs.Octets.{overwrite};
 ghost use Rattle.captures.specs.Reading.{read, records_of};
 ghost use Rattle.tables.specs.Rows.{header_line};
@@ -9,23 +9,18 @@ ghost use Rattle.exporting.specs.Text.{records_lines, room_after};
 ghost use Rattle.exporting.specs.Exporting.{refused_after, put_until, PutsRecords, ExportsTable, ExportsRecords, Exports};
 
 use captures::Version;
-use captures::reading::{NextRecord, Opened};
-use counts::counting::Ending;
+use captures::reading::{Head, NextRecord};
+use refusals::Refusal;
 
 mod rows;
 pub mod window;
 
-// What became of a capture.
-#[derive(Clone, Copy)]
-pub enum Exported {
-    // The table's length, how many responses are refused, and the number of the capture's refusal, 0 for none.
-    Table {
-        length: usize,
-        refused: u64,
-        capture: u8,
-    },
-    // Refusal 54.
-    NoRoom,
+// A capture that was exported: the table's length, how many responses are refused, and the refusal of the capture.
+#[derive(Clone, Copy, Debug, PartialEq, Eq)]
+pub struct Exported {
+    pub length: usize,
+    pub refused: u64,
+    pub capture: Option<Refusal>,
 }
 
 // What is left of some room after the rows of the records of these bytes, of a capture of this version and of so many boards; none where
@@ -37,9 +32,7 @@ fn fit(room: usize, ids: &[u8], records: &[u8], version: Version, boards: u16) -
     let mut rest = records;
     loop {
         match captures::reading::next_record(rest, version, boards) {
-            NextRecord::End => return Some(left),
-            NextRecord::Cut => return Some(left),
-            NextRecord::Wrong => return Some(left),
+            NextRecord::End | NextRecord::Cut | NextRecord::Wrong => return Some(left),
             NextRecord::Record {
                 index,
                 direction,
@@ -49,8 +42,7 @@ fn fit(room: usize, ids: &[u8], records: &[u8], version: Version, boards: u16) -
             } => {
                 let bytes = block::part(rest, packet, after);
                 left = rows::room_after_record(left, ids, index, direction, counter, bytes)?;
-                let next = block::part(rest, after, 0);
-                rest = next;
+                rest = block::part(rest, after, 0);
             }
         }
     }
@@ -63,15 +55,15 @@ fn refused_after(count: u64, refused: bool) -> u64
     count.saturating_add(u64::from(refused))
 }
 
-// Records that were put: where their rows end, how many responses are refused, those before them too, and how they end.
+// Records that were put: where their rows end, how many responses are refused, those before them too, and how they end, as `counts` says it.
 #[derive(Clone, Copy)]
 pub(crate) struct Records {
     pub(crate) end: usize,
     pub(crate) refused: u64,
-    pub(crate) ending: Ending,
+    pub(crate) ending: Result<usize, Refusal>,
 }
 
-fn put_until(end: usize, refused: u64, ending: Ending) -> Records
+fn put_until(end: usize, refused: u64, ending: Result<usize, Refusal>) -> Records
     ensures { result ≡ put_until end refused ending }
 {
     Records {
@@ -99,9 +91,9 @@ pub(crate) fn put_records(
     let mut rest = records;
     loop {
         match captures::reading::next_record(rest, version, boards) {
-            NextRecord::End => return put_until(end, refused, Ending::Left(0)),
-            NextRecord::Cut => return put_until(end, refused, Ending::Left(rest.len())),
-            NextRecord::Wrong => return put_until(end, refused, Ending::Wrong),
+            NextRecord::End => return put_until(end, refused, Ok(0)),
+            NextRecord::Cut => return put_until(end, refused, Ok(rest.len())),
+            NextRecord::Wrong => return put_until(end, refused, Err(Refusal::WrongRecord)),
             NextRecord::Record {
                 index,
                 direction,
@@ -113,30 +105,24 @@ pub(crate) fn put_records(
                 let put = rows::put_record(text, end, ids, index, direction, counter, bytes);
                 end = put.end;
                 refused = refused_after(refused, put.refused);
-                let next = block::part(rest, after, 0);
-                rest = next;
+                rest = block::part(rest, after, 0);
             }
         }
     }
 }
 
-// Exports these records behind the header; 54 is judged before anything is written.
+// Exports these records behind the header; that it has no room is judged before anything is written.
 fn export_records(
     buffer: &mut [u8],
     ids: &[u8],
     records: &[u8],
     version: Version,
     boards: u16,
-) -> Exported
+) -> Option<Exported>
     ensures { ExportsRecords ids.now (read version boards records.now) buffer.old result buffer.new }
 {
-    if buffer.len() < tables::HEADER_SIZE {
-        return Exported::NoRoom;
-    }
-    let room = buffer.len() - tables::HEADER_SIZE;
-    let Some(_) = fit(room, ids, records, version, boards) else {
-        return Exported::NoRoom;
-    };
+    let room = buffer.len().checked_sub(tables::HEADER_SIZE)?;
+    fit(room, ids, records, version, boards)?;
     octets::overwrite(buffer, 0, &tables::header());
     let put = put_records(
         buffer,
@@ -147,40 +133,42 @@ fn export_records(
         boards,
         0,
     );
-    let ending = put.ending;
-    Exported::Table {
+    Some(Exported {
         length: put.end,
         refused: put.refused,
-        capture: counts::counting::ending_number(ending),
-    }
+        capture: counts::counting::refusal_at_end(put.ending),
+    })
 }
 
-// Exports the header alone, of a capture whose head this number refuses.
-fn export_header(buffer: &mut [u8], number: u8) -> Exported
-    ensures { ExportsTable header_line 0 number buffer.old result buffer.new }
+// Exports the header alone, of a capture whose head has this refusal.
+fn export_header(buffer: &mut [u8], refusal: Refusal) -> Option<Exported>
+    ensures { ExportsTable header_line 0 (Some refusal) buffer.old result buffer.new }
 {
     if !octets::overwrite(buffer, 0, &tables::header()) {
-        return Exported::NoRoom;
+        return None;
     }
-    Exported::Table {
+    Some(Exported {
         length: tables::HEADER_SIZE,
         refused: 0,
-        capture: number,
-    }
+        capture: Some(refusal),
+    })
 }
 
-// Exports a capture into the first bytes of `buffer`; the rest stays. One that 53 refuses is exported up to there.
-pub fn export(buffer: &mut [u8], capture: &[u8]) -> Exported
+// Exports a capture into the first bytes of `buffer`; the rest stays. None where the table has no room there. A capture that 53 refuses is
+// exported up to there.
+pub fn export(buffer: &mut [u8], capture: &[u8]) -> Option<Exported>
     ensures { Exports buffer.old capture.now result buffer.new }
 {
     match captures::reading::open(capture) {
-        Opened::Refused(number) => export_header(buffer, number),
-        Opened::Capture {
-            version,
-            boards,
-            ids,
-            records,
-        } => {
+        Err(refusal) => export_header(buffer, refusal),
+        Ok(
+            Head {
+                version,
+                boards,
+                ids,
+                records,
+            },
+        ) => {
             let size = framing::ID_SIZE * usize::from(boards);
             let board_ids = octets::first_bytes(octets::bytes_after(capture, ids), size);
             let rest = octets::bytes_after(capture, records);

@@ -10,7 +10,7 @@ ghost use Rattle.exporting.specs.Text.{record_lines, room_after};
 ghost use Rattle.exporting.specs.RowText.{row_start, row_number, row_text, left_text, next_row, row_size, Puts};
 
 use block::response::NextReport;
-use tool::response::Response;
+use tool::response::Block;
 
 // The longest start of a row: `"x`, an ID, `","1","`, a counter, `","0x`.
 const LONGEST_START: usize = 2 + 2 * framing::ID_SIZE + 7 + numerals::DIGITS + 5;
@@ -161,8 +161,7 @@ fn put_rows(text: &mut [u8], at: usize, start: &[u8], block: &[u8]) -> usize
         };
         let bytes = block::part(left, value, rest);
         place = put_row(text, place, start, next_page, low, bytes);
-        let after = block::part(left, rest, 0);
-        left = after;
+        left = block::part(left, rest, 0);
         page = next_page;
     }
 }
@@ -199,8 +198,7 @@ fn room_after_rows(room: usize, size: usize, block: &[u8]) -> Option<usize>
         };
         let bytes = block::part(left, value, rest);
         space = room_after_row(space, size, bytes.len())?;
-        let after = block::part(left, rest, 0);
-        left = after;
+        left = block::part(left, rest, 0);
         page = next_page;
     }
 }
@@ -219,7 +217,7 @@ pub(crate) fn room_after_record(
     if direction != 1 {
         return Some(room);
     }
-    let Response::Accepted { block, end } = tool::response::read_any(packet) else {
+    let Ok(Block { block, end }) = tool::response::read_any(packet) else {
         return Some(room);
     };
     let size = start_size(id_of(ids, index), counter);
@@ -247,7 +245,7 @@ pub(crate) fn put_record(
             refused: false,
         };
     }
-    let Response::Accepted { block, end } = tool::response::read_any(packet) else {
+    let Ok(Block { block, end }) = tool::response::read_any(packet) else {
         return Put {
             end: at,
             refused: true,

@@ -4,12 +4,12 @@ use lib.ListN.{take}
 use Rattle.exporting.proofs.Captures.{refused_exports, capture_exports}
 use Rattle.exporting.proofs.export.Goals as goal
 
-pub returns-in-Refused : goal.returns-in-Refused
-returns-in-Refused c = refused_exports c.args.capture.now (sym c.open.ensures ∙ c.in-Refused.is) c.export_header.ensures
+pub returns-in-Err : goal.returns-in-Err
+returns-in-Err c = refused_exports c.args.capture.now (sym c.open.ensures ∙ c.in-Err.is) c.export_header.ensures
 
-pub returns-in-Capture : goal.returns-in-Capture
-returns-in-Capture c =
-    capture_exports c.args.capture.now (sym c.open.ensures ∙ c.in-Capture.is)
+pub returns-in-Ok : goal.returns-in-Ok
+returns-in-Ok c =
+    capture_exports c.args.capture.now (sym c.open.ensures ∙ c.in-Ok.is)
     (ap (λ (n : ℕ). 16 * n) c.from-size.ensures)
     (c.first_bytes-board_ids.ensures ∙ ap (take (16 * c.from-size.result)) c.bytes_after.ensures)
     c.bytes_after-rest.ensures

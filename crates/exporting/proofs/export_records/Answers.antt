@@ -4,22 +4,24 @@ use Rattle.captures.specs.Reading.{read}
 use Rattle.exporting.proofs.Tables.{records_refused, rows_too_long, rows_have_room, header_put, records_put}
 use Rattle.exporting.proofs.export_records.Goals as goal
 
-pub returns-then-buffer-lt-HEADER_SIZE : goal.returns-then-buffer-lt-HEADER_SIZE
-returns-then-buffer-lt-HEADER_SIZE c =
+pub returns-in_err-room : goal.returns-in_err-room
+returns-in_err-room c =
     let args = c.args in
-    records_refused args.buffer.now args.ids.now (read args.version args.boards args.records.now) (omega (arith, c.if-buffer-lt-HEADER_SIZE.true))
+    rw c.from_residual.ensures
+    (records_refused args.buffer.now args.ids.now (read args.version args.boards args.records.now) (omega (arith, c.in_err-room.ensures)))
 
-pub returns-in_default : goal.returns-in_default
-returns-in_default c =
+pub returns-in_err-fit : goal.returns-in_err-fit
+returns-in_err-fit c =
     let args = c.args in
     let reading = read args.version args.boards args.records.now in
-    records_refused args.buffer.now args.ids.now reading
-    (rows_too_long args.buffer.now args.ids.now reading c.if-buffer-lt-HEADER_SIZE.false (sym c.fit.ensures ∙ c.in_default.is))
+    rw c.from_residual-in_err-fit.ensures
+    (records_refused args.buffer.now args.ids.now reading
+    (rows_too_long args.buffer.now args.ids.now reading c.in_ok-room.room (omega (arith, c.in_ok-room.ensures)) (sym c.fit.ensures ∙ c.in_err-fit.was)))
 
 pub returns : goal.returns
 returns c =
     let args = c.args in
     let reading = read args.version args.boards args.records.now in
-    let roomy = rows_have_room args.buffer.now args.ids.now reading c.if-buffer-lt-HEADER_SIZE.false (sym c.fit.ensures ∙ c.in-Some.is) in
+    let roomy = rows_have_room args.buffer.now args.ids.now reading c.in_ok-room.room (omega (arith, c.in_ok-room.ensures)) (sym c.fit.ensures ∙ c.in_ok-fit.was) in
     let first = header_put args.buffer.now args.ids.now reading roomy c.header.ensures c.overwrite.ensures in
-    records_put args.buffer.now args.ids.now reading roomy first c.put_records-put.ensures c.ending_number.ensures
+    records_put args.buffer.now args.ids.now reading roomy first c.put_records-put.ensures c.refusal_at_end.ensures

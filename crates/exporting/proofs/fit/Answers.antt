@@ -1,34 +1,13 @@
-use mathlib.Core.List.{[]}
-use mathlib.Core.Path.{refl, sym, ◌∙◌}
-use Rattle.captures.specs.Reading.{left, wrong, records_of}
-use Rattle.captures.proofs.Records.{read_by}
+use mathlib.Core.Path.{sym, ◌∙◌}
 use Rattle.counts.proofs.Counted.{shorter}
-use Rattle.exporting.proofs.Fits.{fits_all, fits_none, fits_on}
+use Rattle.exporting.proofs.Fits.{fits_end, fits_none, fits_on}
 use Rattle.exporting.proofs.fit.Goals as goal
 
 pub returns-in-End : goal.returns-in-End
-unfolding records_of
 returns-in-End c =
     let v = c.loop-index in
     let args = c.args in
-    let last = read_by args.version args.boards v.rest.now (sym c.next_record.ensures ∙ c.in-End.is) in
-    fits_all args.version args.boards args.ids.now v.rest.now v.left v.invariant (left []) last refl
-
-pub returns-in-Cut : goal.returns-in-Cut
-unfolding records_of
-returns-in-Cut c =
-    let v = c.loop-index in
-    let args = c.args in
-    let last = read_by args.version args.boards v.rest.now (sym c.next_record.ensures ∙ c.in-Cut.is) in
-    fits_all args.version args.boards args.ids.now v.rest.now v.left v.invariant (left v.rest.now) last refl
-
-pub returns-in-Wrong : goal.returns-in-Wrong
-unfolding records_of
-returns-in-Wrong c =
-    let v = c.loop-index in
-    let args = c.args in
-    let last = read_by args.version args.boards v.rest.now (sym c.next_record.ensures ∙ c.in-Wrong.is) in
-    fits_all args.version args.boards args.ids.now v.rest.now v.left v.invariant wrong last refl
+    fits_end args.version args.boards args.ids.now v.rest.now v.left v.invariant (rw c.next_record.ensures at c.in-End.is)
 
 pub returns-in_err-left-in-Record : goal.returns-in_err-left-in-Record
 returns-in_err-left-in-Record c =
@@ -39,7 +18,7 @@ returns-in_err-left-in-Record c =
 
 pub loop-index-smaller : goal.loop-index-smaller
 loop-index-smaller c =
-    rw c.part-next.ensures
+    rw c.part-rest.ensures
     (shorter c.args.version c.args.boards c.loop-index.rest.now (sym c.next_record.ensures ∙ c.in-Record.is))
 
 pub loop-index-preserved : goal.loop-index-preserved
@@ -47,5 +26,5 @@ loop-index-preserved c =
     let v = c.loop-index in
     let args = c.args in
     let found = sym c.next_record.ensures ∙ c.in-Record.is in
-    rw c.part-next.ensures
+    rw c.part-rest.ensures
     (fits_on args.version args.boards args.ids.now v.rest.now v.left v.invariant found c.part-bytes.ensures c.room_after_record.ensures c.in_ok-left-in-Record.was)

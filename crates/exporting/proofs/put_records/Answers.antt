@@ -38,5 +38,5 @@ loop-index-preserved c =
     let v = c.loop-index in
     let found = sym c.next_record.ensures ∙ c.in-Record.is in
     let put = c.put_record-put.ensures in
-    rw (c.part-next.ensures, c.refused_after-refused.ensures)
+    rw (c.part-rest.ensures, c.refused_after-refused.ensures)
     (put_next c.args.version c.args.boards v.rest.now c.args.ids.now found v.invariant c.part-bytes.ensures put.end_value put.refused_value put.text_after)

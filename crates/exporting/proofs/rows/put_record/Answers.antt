@@ -22,16 +22,16 @@ pub put_start-size-requires : goal.put_start-size-requires
 put_start-size-requires c = rw c.id_of.ensures (start_short c.args.ids.now c.args.index c.args.counter)
 
 pub slice_bounds-put_rows-count : goal.slice_bounds-put_rows-count
-slice_bounds-put_rows-count c = omega (arith, accepts c.args.packet.now c.read_any.ensures c.in-Accepted.is)
+slice_bounds-put_rows-count c = omega (arith, accepts c.args.packet.now c.read_any.ensures c.in-Ok.is)
 
 pub slice_bounds-put_rows-start : goal.slice_bounds-put_rows-start
-slice_bounds-put_rows-start c = omega (arith, accepts c.args.packet.now c.read_any.ensures c.in-Accepted.is)
+slice_bounds-put_rows-start c = omega (arith, accepts c.args.packet.now c.read_any.ensures c.in-Ok.is)
 
 pub put_rows-requires : goal.put_rows-requires
 put_rows-requires c =
     let args = c.args in
-    let known = accepts args.packet.now c.read_any.ensures c.in-Accepted.is in
-    let rows = accepted_rows args.ids.now args.index args.direction args.counter args.packet.now c.if-direction-ne1.false c.read_any.ensures c.in-Accepted.is in
+    let known = accepts args.packet.now c.read_any.ensures c.in-Ok.is in
+    let rows = accepted_rows args.ids.now args.index args.direction args.counter args.packet.now c.if-direction-ne1.false c.read_any.ensures c.in-Ok.is in
     record {
       block_value = known.formed;
       block_in_bounds =
@@ -42,6 +42,6 @@ put_rows-requires c =
 pub returns : goal.returns
 returns c =
     let args = c.args in
-    let rows = accepted_rows args.ids.now args.index args.direction args.counter args.packet.now c.if-direction-ne1.false c.read_any.ensures c.in-Accepted.is in
+    let rows = accepted_rows args.ids.now args.index args.direction args.counter args.packet.now c.if-direction-ne1.false c.read_any.ensures c.in-Ok.is in
     let put = rows_put rows (rw (put_first (rw c.id_of.ensures at c.put_start-size.ensures)) at c.put_rows.ensures) in
     record { end_value = put.ends; refused_value = put.judged; text_after = put.held }

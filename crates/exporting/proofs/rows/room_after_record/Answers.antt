@@ -17,17 +17,17 @@ returns-in_default c =
     args.room
 
 pub slice_bounds-room_after_rows-count : goal.slice_bounds-room_after_rows-count
-slice_bounds-room_after_rows-count c = omega (arith, accepts c.args.packet.now c.read_any.ensures c.in-Accepted.is)
+slice_bounds-room_after_rows-count c = omega (arith, accepts c.args.packet.now c.read_any.ensures c.in-Ok.is)
 
 pub slice_bounds-room_after_rows-start : goal.slice_bounds-room_after_rows-start
-slice_bounds-room_after_rows-start c = omega (arith, accepts c.args.packet.now c.read_any.ensures c.in-Accepted.is)
+slice_bounds-room_after_rows-start c = omega (arith, accepts c.args.packet.now c.read_any.ensures c.in-Ok.is)
 
 pub room_after_rows-requires : goal.room_after_rows-requires
-room_after_rows-requires c = (accepts c.args.packet.now c.read_any.ensures c.in-Accepted.is).formed
+room_after_rows-requires c = (accepts c.args.packet.now c.read_any.ensures c.in-Ok.is).formed
 
 pub returns : goal.returns
 returns c =
     let args = c.args in
-    let rows = accepted_rows args.ids.now args.index args.direction args.counter args.packet.now c.if-direction-ne1.false c.read_any.ensures c.in-Accepted.is in
+    let rows = accepted_rows args.ids.now args.index args.direction args.counter args.packet.now c.if-direction-ne1.false c.read_any.ensures c.in-Ok.is in
     let sized = rw c.id_of.ensures at c.start_size-size.ensures in
     rw rows.lines (c.room_after_rows.ensures _ (sym sized))

@@ -20,11 +20,11 @@ pub loop-next_page-smaller : goal.loop-next_page-smaller
 loop-next_page-smaller c =
     let v = c.loop-next_page in
     let step = row_next v.page v.left.now v.invariant.0 c.next_row.ensures c.in-Some.is in
-    rw c.part-after.ensures step.shorter
+    rw c.part-left.ensures step.shorter
 
 pub loop-next_page-preserved : goal.loop-next_page-preserved
 loop-next_page-preserved c =
     let v = c.loop-next_page in
     let step = row_next v.page v.left.now v.invariant.0 c.next_row.ensures c.in-Some.is in
-    rw c.part-after.ensures
+    rw c.part-left.ensures
     (step.formed, λ start sized. room_more _ start _ (v.invariant.1 start sized) step sized c.part-bytes.ensures c.room_after_row.ensures c.in_ok-space.was)
