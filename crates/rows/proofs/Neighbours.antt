@@ -9,28 +9,26 @@ use mathlib.Core.Path.{◌≡◌, refl, sym, ap, ◌∙◌}
 use Rattle.rows.specs.Sets.{first_after, first_before}
 
 -- one turn upwards
-pub after_turn : (test : ℕ → Bool) (x most : ℕ) (b : Bool) → x < most → test (x + 1) ≡ b
-    → first_after test x (most - x) ≡ cond b (Some (x + 1)) (first_after test (x + 1) (most - (x + 1)))
+pub after_turn : (test : ℕ → Bool) (x most : ℕ) → x < most
+    → first_after test x (most - x) ≡ cond (test (x + 1)) (Some (x + 1)) (first_after test (x + 1) (most - (x + 1)))
 unfolding first_after
-after_turn test x most b h e =
+after_turn test x most h =
     let left : most - x ≡ suc (most - (x + 1)) = omega arith in
-    ap (λ (n : ℕ). first_after test x n) left
-    ∙ ap (λ (y : ℕ). cond (test y) (Some y) (first_after test y (most - (x + 1)))) (sym (add-one x))
-    ∙ ap (λ (t : Bool). cond t (Some (x + 1)) (first_after test (x + 1) (most - (x + 1)))) e
+    rw (left, add-one)
 
 pub after_end : (test : ℕ → Bool) (x most : ℕ) → most ≤ x → first_after test x (most - x) ≡ None
 unfolding first_after
 after_end test x most h =
     let left : most - x ≡ 0 = omega arith in
-    ap (λ (n : ℕ). first_after test x n) left
+    rw left
 
 -- one turn downwards
-pub before_turn : (test : ℕ → Bool) (x : ℕ) (b : Bool) → 0 < x → test (x - 1) ≡ b
-    → first_before test x ≡ cond b (Some (x - 1)) (first_before test (x - 1))
+pub before_turn : (test : ℕ → Bool) (x : ℕ) → 0 < x → first_before test x ≡ cond (test (x - 1)) (Some (x - 1)) (first_before test (x - 1))
 unfolding first_before
-before_turn test x b h e =
-    let whole : x ≡ suc (x - 1) = omega arith in
-    ap (λ (n : ℕ). first_before test n) whole ∙ ap (λ (t : Bool). cond t (Some (x - 1)) (first_before test (x - 1))) e
+before_turn test zero h = absurd (not-suc-le-zero h)
+before_turn test (suc x) h =
+    let less : suc x - 1 ≡ x = omega arith in
+    rw less
 
 pub before_end : (test : ℕ → Bool) (x : ℕ) → x ≤ 0 → first_before test x ≡ None
 unfolding first_before

@@ -113,6 +113,7 @@ fn is_named(unit: u8, number: u16, index: usize) -> bool
 }
 
 // The index of a unit type's row with a number, or the number of rows where there is none.
+#[tactic(auto, using(crate::proofs::Tables::index_here, crate::proofs::Tables::index_on, crate::proofs::Tables::index_end))]
 pub fn index_of(unit: u8, number: u16) -> usize
     ensures { result ≡ index_of unit number }
 {

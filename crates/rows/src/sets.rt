@@ -30,6 +30,7 @@ impl Range {
         self.high.max(self.extra)
     }
 
+    #[tactic(auto, using(crate::proofs::Neighbours::after_turn, crate::proofs::Neighbours::after_end))]
     fn least_above(self, number: u16) -> Option<u16>
         requires { 0 < self.step }
         ensures { result ≡ least_above self number }
@@ -43,6 +44,7 @@ impl Range {
         None
     }
 
+    #[tactic(auto, using(crate::proofs::Neighbours::before_turn, crate::proofs::Neighbours::before_end))]
     fn greatest_below(self, number: u16) -> Option<u16>
         requires { 0 < self.step }
         ensures { result ≡ greatest_below self number }
@@ -91,6 +93,7 @@ fn is_switch(value: &[u8]) -> bool
 }
 
 // Whether the row of a setpoint may hold a temperature.
+#[tactic(auto, using(crate::proofs::Rule::step_pos))]
 fn takes(index: usize, temperature: WholeDegrees) -> bool
     requires { (row_at index).quantity ≡ Quantity.WholeDegrees }
     ensures { result ≡ in_range (range_of (set_at index)) temperature.degrees }
@@ -98,6 +101,7 @@ fn takes(index: usize, temperature: WholeDegrees) -> bool
     range_at(index).contains(u16::from(temperature.degrees))
 }
 
+#[tactic(auto, using(crate::proofs::Rule::step_pos, crate::proofs::Quantities::degrees_number))]
 fn is_number(index: usize, value: &[u8]) -> bool
     ensures { result ≡ member (Number (size_of (set_at index)) (range_of (set_at index))) value.now }
 {
@@ -135,6 +139,7 @@ pub fn is_member(index: usize, value: &[u8]) -> bool
 }
 
 // The neighbour of a number in the range of the row at an index, up or down.
+#[tactic(auto, using(crate::proofs::Rule::step_pos))]
 pub fn neighbour(index: usize, number: u16, up: bool) -> Option<u16>
     ensures { result ≡ cond up least_above greatest_below (range_of (set_at index)) number }
 {

@@ -141,6 +141,7 @@ fn put_entry(entries: &mut [Entry; ENTRIES], day: u8, period: u8, new: Entry)
 }
 
 // The entries with another one for a period of each of these days.
+#[tactic(auto, using(crate::proofs::Spans::days_turn, crate::proofs::Spans::days_end))]
 fn with_days(
     mut entries: [Entry; ENTRIES],
     days: Range<u8>,
@@ -206,6 +207,7 @@ pub fn report(schedule: Schedule, day: u8, period: u8) -> [u8; 6]
 }
 
 // Functions 02 and 03: stores an entry on each day written, unless one of its fields is bad.
+#[tactic(auto, using(crate::proofs::Spans::found, crate::proofs::Writing::stored))]
 pub fn write(schedule: Schedule, value: &[u8]) -> Schedule
     ensures { result ≡ written schedule value.now }
 {

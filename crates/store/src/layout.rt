@@ -21,6 +21,7 @@ fn is_text(index: usize) -> bool
 }
 
 // The value that the row at an index holds.
+#[tactic(auto, using(crate::proofs::Slots::place_within))]
 pub fn value_at(bytes: &[u8], index: usize) -> &[u8]
     ensures { result.now ≡ value_at bytes.now index }
 {
@@ -55,6 +56,7 @@ fn fill(store: Store, at: usize, size: usize, value: &[u8]) -> Store
 }
 
 // The store with another value in the slot of the row at an index.
+#[tactic(auto, using(crate::proofs::Slots::place_within, crate::proofs::Slots::size_width, crate::proofs::Slots::text_within, crate::proofs::Slots::kept_length, crate::proofs::Slots::stored_text, rows::proofs::Rule::size_most))]
 pub fn with_value_at(store: Store, index: usize, value: &[u8]) -> Store
     ensures { result ≡ with_value_at store index value.now }
 {

@@ -203,6 +203,7 @@ fn row_sound(store: &Store, index: usize) -> bool
 }
 
 // Whether each row that the unit type has holds a value of its set.
+#[tactic(auto, using(crate::proofs::Members::sound_turn, crate::proofs::Members::sound_end))]
 pub fn sound(store: Store) -> bool
     ensures { result ≡ sound_of store }
 {

@@ -50,6 +50,7 @@ fn store_degrees(store: Store, index: usize, temperature: WholeDegrees) -> Store
 }
 
 // A measured value is a temperature, or a mark, whose bytes are stored as they are.
+#[tactic(auto, using(crate::proofs::Degrees::tenths_stored))]
 fn store_measured(store: Store, index: usize, value: &[u8]) -> Store
     requires { (row_at index).quantity ≡ Quantity.Tenths }
     ensures { result ≡ with_value_at store index value.now }
@@ -61,6 +62,7 @@ fn store_measured(store: Store, index: usize, value: &[u8]) -> Store
 }
 
 // Stores a value: the way of every operation.
+#[tactic(auto, using(crate::proofs::Degrees::degrees_stored))]
 pub fn store_value(store: Store, number: u16, value: &[u8]) -> Store
     ensures { result ≡ with_value store number value.now }
 {
