@@ -81,6 +81,7 @@ pub fn size_at(index: usize) -> usize
     usize::from(entry_at(&columns::SIZE, index, 0))
 }
 
+#[tactic(auto, unfolding(crate::specs::Rows::rows, crate::specs::Layout::places_from))]
 pub fn place_at(index: usize) -> usize
     ensures { result ≡ place_at index }
 {
