@@ -5,7 +5,6 @@ mod stream;
 
 use std::io;
 use std::process::ExitCode;
-use tool::listing::Listed;
 
 // Says on standard error what failed.
 fn failed(rt: &HostRuntime, what: &str, error: io::Error) -> ExitCode {
@@ -20,7 +19,8 @@ fn sum_up(rt: &HostRuntime, pairs: &mut [u64], window: &mut [u8], text: &mut [u8
         Ok(refusal) => refusal,
         Err(error) => return failed(rt, "standard input", error),
     };
-    let Listed::Length(length) = summing::write(text, pairs, refusal) else {
+    let number = refusals::number_or_zero(refusal);
+    let Some(length) = summing::write(text, pairs, number) else {
         return ExitCode::SUCCESS;
     };
     match rt.stdout().write_all(octets::first_bytes(text, length)) {
