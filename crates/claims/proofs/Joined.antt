@@ -27,7 +27,7 @@ use Rattle.model.specs.Commands.{run, run_reports}
 use Rattle.model.specs.Record.{password_of, sound, with_parameters}
 use Rattle.model.specs.Refusals.{Silent, Responds}
 use Rattle.model.specs.Step.{Call, call, request_of, request, is_discovery, reports_of, response, step_refusal, step}
-use Rattle.model.specs.declared.Answer.TheVariants.{Refused, Silence}
+use Rattle.model.specs.declared.Answer.TheVariants.{Silence}
 use Rattle.model.specs.declared.Board.{Board}
 use Rattle.model.proofs.Changed.{asked, no_discovery, commands_report, commands_leave}
 use Rattle.model.proofs.Joining.{runs_join}
@@ -178,13 +178,10 @@ packets_join first second earlier later turn accepted also fit buffer room =
 told : {c : Call} (made : PacketMade c) → Told made (reports_of (request c))
 told {c} made =
     record {
-      silence = λ e. by_answer (sym made.contract.answer ∙ e) (none_answered c (none_refused c (no_refusal (sym made.contract.answer ∙ e))));
+      silence = λ e. by_answer (sym made.contract.answer ∙ e) (none_answered c (none_refused c (λ refusal k. cc (made.contract.answer, e, k))));
       response = λ size e. (responses_agree c made.result made.after size made.contract e).reports;
     }
   where
-    no_refusal : (step c).answer ≡ Silence → (refusal : Refusal) → (step c).answer ≡ Refused refusal → ⊥
-    no_refusal e refusal k = cc
-
     by_answer : (step c).answer ≡ Silence → Silent c ⊎ Responds c → reports_of (request c) ≡ []
     by_answer e (inl silent) = silent.reports
     by_answer e (inr responds) = absurd (cc (e, responds.answer))
@@ -224,11 +221,8 @@ contracts_join first second earlier later one two turn taken taken_too reports m
           let joins = packet_joins first second earlier later left_first accepted also fits given asks writes told_length buffer room in
           record {
             own = joins.own;
-            accepted = λ refusal e. never_both (answered_none _ joins.answered) (refusal_answered _ (sym both.contract.answer ∙ e));
+            accepted = λ refusal e. cc (answered_none _ joins.answered, refusal_answered _ (sym both.contract.answer ∙ e));
             board = both.contract.board ∙ joins.board ∙ sym two.contract.board;
             told = subst (Told both) (joins.reports ∙ sym same_reports) (told both);
           };
     }
-  where
-    never_both : {o : Option Refusal} {refusal : Refusal} → o ≡ none → o ≡ some refusal → ⊥
-    never_both e k = cc
