@@ -3,14 +3,14 @@
 
 ghost use Rattle.std.specs.Prelude.{◌≡◌, ◌+◌, ◌≤◌, Some, length};
 ghost use Rattle.octets.specs.Octets.{overwrite};
-ghost use Rattle.captures.specs.Reading.{read, records_of};
 ghost use Rattle.tables.specs.Rows.{header_line};
-ghost use Rattle.exporting.specs.Text.{records_lines, room_after};
+ghost use Rattle.exporting.specs.Text.{reading_given, lines_given, room_after};
 ghost use Rattle.exporting.specs.Exporting.{refused_after, put_until, PutsRecords, ExportsTable, ExportsRecords, Exports};
 
 use captures::Version;
-use captures::reading::{Head, NextRecord};
+use captures::reading::NextRecord;
 use refusals::Refusal;
+use rows::Record;
 
 mod rows;
 pub mod window;
@@ -21,31 +21,6 @@ pub struct Exported {
     pub length: usize,
     pub refused: u64,
     pub capture: Option<Refusal>,
-}
-
-// What is left of some room after the rows of the records of these bytes, of a capture of this version and of so many boards; none where
-// the room is too small.
-fn fit(room: usize, ids: &[u8], records: &[u8], version: Version, boards: u16) -> Option<usize>
-    ensures { result ≡ room_after room (records_lines ids.now (records_of (read version boards records.now))) }
-{
-    let mut left = room;
-    let mut rest = records;
-    loop {
-        match captures::reading::next_record(rest, version, boards) {
-            NextRecord::End | NextRecord::Cut | NextRecord::Wrong => return Some(left),
-            NextRecord::Record {
-                index,
-                direction,
-                counter,
-                packet,
-                rest: after,
-            } => {
-                let bytes = block::part(rest, packet, after);
-                left = rows::room_after_record(left, ids, index, direction, counter, bytes)?;
-                rest = block::part(rest, after, 0);
-            }
-        }
-    }
 }
 
 // One refused response more, up to the largest number.
@@ -73,71 +48,94 @@ fn put_until(end: usize, refused: u64, ending: Result<usize, Refusal>) -> Record
     }
 }
 
-// Puts the rows of the records of these bytes into `text` from `at` on, where they have room.
-pub(crate) fn put_records(
-    text: &mut [u8],
-    at: usize,
-    ids: &[u8],
-    records: &[u8],
-    version: Version,
-    boards: u16,
-    earlier: u64,
-) -> Records
-    requires { at + length (records_lines ids.now (records_of (read version boards records.now))) ≤ length text.old }
-    ensures { PutsRecords ids.now (read version boards records.now) text.old at earlier result text.new }
-{
-    let mut end = at;
-    let mut refused = earlier;
-    let mut rest = records;
-    loop {
-        match captures::reading::next_record(rest, version, boards) {
-            NextRecord::End => return put_until(end, refused, Ok(0)),
-            NextRecord::Cut => return put_until(end, refused, Ok(rest.len())),
-            NextRecord::Wrong => return put_until(end, refused, Err(Refusal::WrongRecord)),
-            NextRecord::Record {
-                index,
-                direction,
-                counter,
-                packet,
-                rest: after,
-            } => {
-                let bytes = block::part(rest, packet, after);
-                let put = rows::put_record(text, end, ids, index, direction, counter, bytes);
-                end = put.end;
-                refused = refused_after(refused, put.refused);
-                rest = block::part(rest, after, 0);
+// The records of these bytes, of a capture of this version and of so many boards, with their IDs.
+#[derive(Clone, Copy)]
+pub(crate) struct Source<'a> {
+    pub(crate) ids: &'a [u8],
+    pub(crate) records: &'a [u8],
+    pub(crate) version: Version,
+    pub(crate) boards: u16,
+}
+
+impl<'a> Source<'a> {
+    // What is left of some room after the rows of the records; none where the room is too small.
+    fn fit(&self, room: usize) -> Option<usize>
+        ensures { result ≡ room_after room (lines_given self.now) }
+    {
+        let mut left = room;
+        let mut rest = self.records;
+        loop {
+            match captures::reading::next_record(rest, self.version, self.boards) {
+                NextRecord::End | NextRecord::Cut | NextRecord::Wrong => return Some(left),
+                NextRecord::Record {
+                    index,
+                    direction,
+                    counter,
+                    packet,
+                    rest: after,
+                } => {
+                    let record = Record {
+                        index,
+                        direction,
+                        counter,
+                        packet: block::part(rest, packet, after),
+                    };
+                    left = record.room_after(left, self.ids)?;
+                    rest = block::part(rest, after, 0);
+                }
             }
         }
     }
-}
 
-// Exports these records behind the header; that it has no room is judged before anything is written.
-fn export_records(
-    buffer: &mut [u8],
-    ids: &[u8],
-    records: &[u8],
-    version: Version,
-    boards: u16,
-) -> Option<Exported>
-    ensures { ExportsRecords ids.now (read version boards records.now) buffer.old result buffer.new }
-{
-    let room = buffer.len().checked_sub(tables::HEADER_SIZE)?;
-    fit(room, ids, records, version, boards)?;
-    octets::overwrite(buffer, 0, &tables::header());
-    let put = put_records(
-        buffer,
-        tables::HEADER_SIZE,
-        ids,
-        records,
-        version,
-        boards,
-        0,
-    );
-    Some(Exported {
-        length: put.end,
-        refused: put.refused,
-        capture: counts::counting::refusal_at_end(put.ending),
-    })
+    // Puts the rows of the records into `text` from `at` on, where they have room.
+    pub(crate) fn put(&self, text: &mut [u8], at: usize, earlier: u64) -> Records
+        requires { at + length (lines_given self.now) ≤ length text.old }
+        ensures { PutsRecords self.now.ids.now (reading_given self.now) text.old at earlier result text.new }
+    {
+        let mut end = at;
+        let mut refused = earlier;
+        let mut rest = self.records;
+        loop {
+            match captures::reading::next_record(rest, self.version, self.boards) {
+                NextRecord::End => return put_until(end, refused, Ok(0)),
+                NextRecord::Cut => return put_until(end, refused, Ok(rest.len())),
+                NextRecord::Wrong => return put_until(end, refused, Err(Refusal::WrongRecord)),
+                NextRecord::Record {
+                    index,
+                    direction,
+                    counter,
+                    packet,
+                    rest: after,
+                } => {
+                    let record = Record {
+                        index,
+                        direction,
+                        counter,
+                        packet: block::part(rest, packet, after),
+                    };
+                    let put = record.put(text, end, self.ids);
+                    end = put.end;
+                    refused = refused_after(refused, put.refused);
+                    rest = block::part(rest, after, 0);
+                }
+            }
+        }
+    }
+
+    // Exports the records behind the header; that it has no room is judged before anything is written.
+    fn export(&self, buffer: &mut [u8]) -> Option<Exported>
+        ensures { ExportsRecords self.now.ids.now (reading_given self.now) buffer.old result buffer.new }
+    {
+        let room = buffer.len().checked_sub(tables::HEADER_SIZE)?;
+        self.fit(room)?;
+        octets::overwrite(buffer, 0, &tables::header());
+        let put = self.put(buffer, tables::HEADER_SIZE, 0);
+        Some(Exported {
+            length: put.end,
+            refused: put.refused,
+            capture: counts::counting::refusal_at_end(put.ending),
+        })
+    }
 }
 
 // Exports the header alone, of a capture whose head has this refusal.
@@ -161,18 +159,15 @@ pub fn export(buffer: &mut [u8], capture: &[u8]) -> Option<Exported>
 {
     match captures::reading::open(capture) {
         Err(refusal) => export_header(buffer, refusal),
-        Ok(
-            Head {
-                version,
-                boards,
-                ids,
-                records,
-            },
-        ) => {
-            let size = framing::ID_SIZE * usize::from(boards);
-            let board_ids = octets::first_bytes(octets::bytes_after(capture, ids), size);
-            let rest = octets::bytes_after(capture, records);
-            export_records(buffer, board_ids, rest, version, boards)
+        Ok(head) => {
+            let size = framing::ID_SIZE * usize::from(head.boards);
+            let source = Source {
+                ids: octets::first_bytes(octets::bytes_after(capture, head.ids), size),
+                records: octets::bytes_after(capture, head.records),
+                version: head.version,
+                boards: head.boards,
+            };
+            source.export(buffer)
         }
     }
 }

@@ -3,10 +3,9 @@ ghost use Rattle.std.specs.Prelude.{true, List, [], ◌∷◌, ◌≡◌, ℕ, �
 ghost use Rattle.octets.specs.Octets.{overwrite};
 ghost use Rattle.block.specs.Reading.{is_some};
 ghost use Rattle.block.specs.Response.{reports, next_report};
-ghost use Rattle.captures.specs.Form.{record_of};
 ghost use Rattle.numerals.specs.Numerals.{decimal, Holds};
 ghost use Rattle.tables.specs.Exporting.{id_of, is_refused};
-ghost use Rattle.exporting.specs.Text.{record_lines, room_after};
+ghost use Rattle.exporting.specs.Text.{record_given, record_lines, room_after};
 ghost use Rattle.exporting.specs.RowText.{row_start, row_number, row_text, left_text, next_row, row_size, Puts};
 
 use block::response::NextReport;
@@ -203,58 +202,54 @@ fn room_after_rows(room: usize, size: usize, block: &[u8]) -> Option<usize>
     }
 }
 
-// What is left of some room after the rows of a record; none where the room is too small.
-pub(crate) fn room_after_record(
-    room: usize,
-    ids: &[u8],
-    index: u16,
-    direction: u8,
-    counter: u32,
-    packet: &[u8],
-) -> Option<usize>
-    ensures { result ≡ room_after room (record_lines ids.now (record_of index direction counter packet.now)) }
-{
-    if direction != 1 {
-        return Some(room);
-    }
-    let Ok(Block { block, end }) = tool::response::read_any(packet) else {
-        return Some(room);
-    };
-    let size = start_size(id_of(ids, index), counter);
-    room_after_rows(room, size, &packet[block..end])
+// A record of a capture.
+#[derive(Clone, Copy)]
+pub(crate) struct Record<'a> {
+    pub(crate) index: u16,
+    pub(crate) direction: u8,
+    pub(crate) counter: u32,
+    pub(crate) packet: &'a [u8],
 }
 
-// Puts the rows of a record into `text` from `at` on, where they have room, and says where they end.
-pub(crate) fn put_record(
-    text: &mut [u8],
-    at: usize,
-    ids: &[u8],
-    index: u16,
-    direction: u8,
-    counter: u32,
-    packet: &[u8],
-) -> Put
-    requires { at + length (record_lines ids.now (record_of index direction counter packet.now)) ≤ length text.old }
-    ensures end_value { result.end ≡ at + length (record_lines ids.now (record_of index direction counter packet.now)) }
-    ensures refused_value { result.refused ≡ is_refused (record_of index direction counter packet.now) }
-    ensures text_after { text.new ≡ overwrite text.old at (record_lines ids.now (record_of index direction counter packet.now)) }
-{
-    if direction != 1 {
-        return Put {
-            end: at,
-            refused: false,
+impl<'a> Record<'a> {
+    // What is left of some room after the rows of the record; none where the room is too small.
+    pub(crate) fn room_after(&self, room: usize, ids: &[u8]) -> Option<usize>
+        ensures { result ≡ room_after room (record_lines ids.now (record_given self.now)) }
+    {
+        if self.direction != 1 {
+            return Some(room);
+        }
+        let Ok(Block { block, end }) = tool::response::read_any(self.packet) else {
+            return Some(room);
         };
+        let size = start_size(id_of(ids, self.index), self.counter);
+        room_after_rows(room, size, &self.packet[block..end])
     }
-    let Ok(Block { block, end }) = tool::response::read_any(packet) else {
-        return Put {
-            end: at,
-            refused: true,
+
+    // Puts the rows of the record into `text` from `at` on, where they have room, and says where they end.
+    pub(crate) fn put(&self, text: &mut [u8], at: usize, ids: &[u8]) -> Put
+        requires { at + length (record_lines ids.now (record_given self.now)) ≤ length text.old }
+        ensures end_value { result.end ≡ at + length (record_lines ids.now (record_given self.now)) }
+        ensures refused_value { result.refused ≡ is_refused (record_given self.now) }
+        ensures text_after { text.new ≡ overwrite text.old at (record_lines ids.now (record_given self.now)) }
+    {
+        if self.direction != 1 {
+            return Put {
+                end: at,
+                refused: false,
+            };
+        }
+        let Ok(Block { block, end }) = tool::response::read_any(self.packet) else {
+            return Put {
+                end: at,
+                refused: true,
+            };
         };
-    };
-    let mut start = [0u8; LONGEST_START];
-    let size = put_start(&mut start, id_of(ids, index), counter);
-    Put {
-        end: put_rows(text, at, &start[..size], &packet[block..end]),
-        refused: false,
+        let mut start = [0u8; LONGEST_START];
+        let size = put_start(&mut start, id_of(ids, self.index), self.counter);
+        Put {
+            end: put_rows(text, at, &start[..size], &self.packet[block..end]),
+            refused: false,
+        }
     }
 }

@@ -1,6 +1,7 @@
 // Exports the records of a capture that is read through a window.
 ghost use Rattle.exporting.specs.Exporting.{window_call, ExportsWindow};
 
+use super::Source;
 use captures::Version;
 use refusals::Refusal;
 
@@ -33,7 +34,13 @@ pub fn export_window(
     if text.len() / TEXT_PER_BYTE < records.len() {
         return None;
     }
-    let put = super::put_records(text, 0, ids, records, version, boards, refused);
+    let source = Source {
+        ids,
+        records,
+        version,
+        boards,
+    };
+    let put = source.put(text, 0, refused);
     let ending = put.ending;
     counts::window::keep(window, end, ending);
     Some(Rows {

@@ -11,6 +11,6 @@ pub returns-in-Ok : goal.returns-in-Ok
 returns-in-Ok c =
     capture_exports c.args.capture.now (sym c.open.ensures ∙ c.in-Ok.is)
     (ap (λ (n : ℕ). 16 * n) c.from-size.ensures)
-    (c.first_bytes-board_ids.ensures ∙ ap (take (16 * c.from-size.result)) c.bytes_after.ensures)
-    c.bytes_after-rest.ensures
-    c.export_records.ensures
+    (c.first_bytes.ensures ∙ ap (take (16 * c.from-size.result)) c.bytes_after.ensures)
+    c.bytes_after-in-Ok.ensures
+    c.export.ensures
