@@ -3,7 +3,6 @@ ghost use Rattle.std.specs.Prelude.{true, List, [], ◌∷◌, ◌≡◌, ℕ, �
 ghost use Rattle.octets.specs.Octets.{overwrite};
 ghost use Rattle.block.specs.Reading.{is_some};
 ghost use Rattle.block.specs.Response.{reports, next_report};
-ghost use Rattle.numerals.specs.Numerals.{decimal, Holds};
 ghost use Rattle.tables.specs.Exporting.{id_of, is_refused};
 ghost use Rattle.exporting.specs.Text.{record_given, record_lines, room_after};
 ghost use Rattle.exporting.specs.RowText.{row_start, row_number, row_text, left_text, next_row, row_size, Puts};
@@ -70,23 +69,18 @@ fn id_of(ids: &[u8], index: u16) -> &[u8]
     octets::first_bytes(octets::bytes_after(ids, at), framing::ID_SIZE)
 }
 
-// The digits of a counter.
-fn counter_digits(counter: u32) -> numerals::Numeral
-    ensures { Holds (decimal counter) result }
-{
-    numerals::decimal(u64::from(counter))
-}
-
 // How many bytes stand before the number in each row of a response.
+#[tactic(auto, using(crate::proofs::RowTexts::length_start))]
 fn start_size(id: &[u8], counter: u32) -> usize
     requires { length id.now ≤ 16 }
     ensures { result ≡ length (row_start id.now counter) }
 {
-    let digits = counter_digits(counter);
-    LONGEST_START - 2 * (framing::ID_SIZE - id.len()) - digits.start
+    let numeral = numerals::decimal(u64::from(counter));
+    2 + 2 * id.len() + 7 + numeral.text().len() + 5
 }
 
 // Puts what stands before the number in each row of a response into the first bytes of `text`, where it has room, and says where it ends.
+#[tactic(auto, using(crate::proofs::RowTexts::length_start))]
 fn put_start(text: &mut [u8], id: &[u8], counter: u32) -> usize
     requires { length (row_start id.now counter) ≤ length text.old }
     ensures { Puts text.old 0 (row_start id.now counter) result text.new }
@@ -95,17 +89,17 @@ fn put_start(text: &mut [u8], id: &[u8], counter: u32) -> usize
     numerals::write_hex(text, 2, id);
     let direction = 2 + 2 * id.len();
     octets::overwrite(text, direction, b"\",\"1\",\"");
-    let digits = counter_digits(counter);
-    let bytes = digits.bytes;
-    let first = digits.start;
+    let numeral = numerals::decimal(u64::from(counter));
+    let digits = numeral.text();
     let number = direction + 7;
-    octets::overwrite(text, number, &bytes[first..]);
-    let end = number + (numerals::DIGITS - first);
+    octets::overwrite(text, number, digits);
+    let end = number + digits.len();
     octets::overwrite(text, end, b"\",\"0x");
     end + 5
 }
 
 // A number in four digits, and what stands before the value.
+#[tactic(auto, unfolding(numerals::specs::Numerals::hex_bytes))]
 fn row_number(page: u8, low: u8) -> [u8; 8]
     ensures { result ≡ row_number (page ∷ low ∷ []) }
 {
@@ -124,6 +118,7 @@ fn row_number(page: u8, low: u8) -> [u8; 8]
 }
 
 // Puts a row into `text` from `at` on, where it has room, and says where it ends.
+#[tactic(auto, using(crate::proofs::RowTexts::length_row))]
 fn put_row(text: &mut [u8], at: usize, start: &[u8], page: u8, low: u8, value: &[u8]) -> usize
     requires { at + length (row_text start.now (page ∷ low ∷ []) value.now) ≤ length text.old }
     ensures { Puts text.old at (row_text start.now (page ∷ low ∷ []) value.now) result text.new }

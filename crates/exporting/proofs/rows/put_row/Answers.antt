@@ -1,14 +1,5 @@
-use native.Mathlib.Omega.{arith}
-use mathlib.Core.List.{[], ◌∷◌}
-use mathlib.Core.Path.{refl}
-use Rattle.exporting.proofs.RowTexts.{length_row, row_put}
+use Rattle.exporting.proofs.RowTexts.{row_put}
 use Rattle.exporting.proofs.rows.put_row.Goals as goal
-
-pub overflow_add-end : goal.overflow_add-end
-overflow_add-end c = omega (arith, length_row c.args.start.now (c.args.page ∷ c.args.low ∷ []) c.args.value.now refl)
-
-pub overflow_add-result : goal.overflow_add-result
-overflow_add-result c = omega (arith, length_row c.args.start.now (c.args.page ∷ c.args.low ∷ []) c.args.value.now refl)
 
 pub returns : goal.returns
 returns c =
