@@ -18,7 +18,7 @@ use Rattle.framing.specs.Packet.{writable}
 use Rattle.framing.specs.Refusal.{rule, first_refusal}
 use Rattle.refusals.specs.declared.Refusal.{Refusal}
 use Rattle.refusals.specs.declared.Refusal.TheVariants.{LongResponse}
-use Rattle.framing.proofs.Refusals.{not_refused, first_of_joined}
+use Rattle.framing.proofs.Refusals.{first_of_joined}
 use Rattle.framing.proofs.Writing.{length_packet}
 use Rattle.block.specs.Command.{Command, command_number, is_read, Report, held, unknown, report_page}
 use Rattle.block.specs.Encoding.{change, report_body, encode_report, encode_reports, encodable_report, every}
@@ -43,6 +43,7 @@ use Rattle.commands.specs.declared.RunResult.{RunResult}
 use Rattle.commands.specs.declared.Scope.{Scope}
 use Rattle.commands.specs.declared.Scope.TheVariants.{All, Identity}
 use Rattle.model.proofs.Changed.{read_keeps, values_reported}
+use Rattle.model.proofs.Earliest.{first_none}
 use Rattle.model.proofs.EncodableReports.{Fit, fit_after, encodable_join, encodable_reported}
 use Rattle.model.proofs.Soundness.{Sized, sound_parts, id_length}
 
@@ -269,12 +270,8 @@ module _ (r : Request) (buffer : List ℕ) (legal : sound r.board ≡ true) (sho
     unfolding request_refusals or_else
     by_checks (some refusal) e = refl
     by_checks none e =
-        let seven = not_refused _ _ r e in
-        let eight = not_refused _ _ r seven.1 in
-        let nine = not_refused _ _ r eight.1 in
-        let ten = not_refused _ _ r nine.1 in
-        let eleven = not_refused _ _ r ten.1 in
-        responds_by (is_discovery r) refl ten.0 eleven.0
+        let passed = first_none _ r e in
+        responds_by (is_discovery r) refl passed.1.1.1.0 passed.1.1.1.1.0
 
 pub answered_outcome :
     (r : Request) (buffer : List ℕ) → sound r.board ≡ true → length r.frame.password ≤ 8 → 256 ≤ length buffer

@@ -16,7 +16,6 @@ use Rattle.octets.proofs.Same.{same_equal}
 use Rattle.framing.specs.Identity.{all_alphanumeric, default_id}
 use Rattle.framing.specs.Packet.{frame_of}
 use Rattle.framing.specs.Refusal.{first_refusal}
-use Rattle.framing.proofs.Refusals.{not_refused}
 use Rattle.refusals.specs.declared.Refusal.{Refusal}
 use Rattle.block.specs.Command.{Command, command_number, Report, held, unknown}
 use Rattle.block.specs.Encoding.{every}
@@ -52,6 +51,7 @@ use Rattle.model.specs.declared.Parameters.{Parameters}
 use Rattle.model.proofs.Joining.{runs_join, none_run}
 use Rattle.model.proofs.RowOperations.{operation_of, operates, done, same_slot, carried_out}
 use Rattle.model.proofs.Soundness.{Sized, SoundParts, sound_parts, parts_sound}
+use Rattle.model.proofs.Earliest.{first_none}
 use Rattle.model.proofs.StepRefusals.{step_refusal_by, step_refused, passed_step, answered_board, on_step}
 
 -- a command of a row does its operation
@@ -532,7 +532,7 @@ unfolding measured_board measure_refusal measure_refusals
 on_measured P c unchanged changed = by_refusal (measure_refusal c) refl
   where
     by_refusal : (o : Option Refusal) → measure_refusal c ≡ o → P (measured_by o c)
-    by_refusal none e = changed (sound_parts c.board (not-false _ (not_refused _ _ c e).0))
+    by_refusal none e = changed (sound_parts c.board (not-false _ (first_none _ c e).0))
     by_refusal (some refusal) e = unchanged
 
 measurement_accepted :
@@ -544,12 +544,10 @@ measurement_accepted c legal row read_only_lem not_id not_type size = rw (legal,
 measured_value : (c : MeasureCall) → measure_refusal c ≡ none → value_of (measured_board c).parameters.store c.number ≡ c.value
 unfolding measure_refusal measure_refusals measured_board
 measured_value c e =
-    let seventy = not_refused _ _ c e in
-    let thirty = not_refused _ _ c seventy.1 in
-    let thirty_one = not_refused _ _ c thirty.1 in
-    let sized : Sized c.board.parameters = (sound_parts c.board (not-false _ seventy.0)).sized in
-    let row : measurable (unit_of c.board) c.number ≡ true = not-false _ thirty.0 in
-    let size : eqb (length c.value) (size_of (row_of (unit_of c.board) c.number).set) ≡ true = not-false _ thirty_one.0 in
+    let passed = first_none _ c e in
+    let sized : Sized c.board.parameters = (sound_parts c.board (not-false _ passed.0)).sized in
+    let row : measurable (unit_of c.board) c.number ≡ true = not-false _ passed.1.0 in
+    let size : eqb (length c.value) (size_of (row_of (unit_of c.board) c.number).set) ≡ true = not-false _ passed.1.1.0 in
     let stored : new_value (Measure c.value) c.board.parameters.store c.number ≡ Some c.value = rw (row, size) in
     ap (λ (o : Option Refusal). value_of (measured_by o c).parameters.store c.number) e
     ∙ read_back (Measure c.value) c.board.parameters.store c.number c.value sized.store stored
@@ -594,21 +592,18 @@ start_unit given = refl
 started : (given : SetUp) → set_up_refusal given ≡ none → sound (start_board given) ≡ true
 unfolding set_up_refusal set_up_refusals
 started given e =
-    let twenty = not_refused _ _ given e in
-    let twenty_one = not_refused _ _ given twenty.1 in
-    let twenty_two = not_refused _ _ given twenty_one.1 in
-    let twenty_three = not_refused _ _ given twenty_two.1 in
-    let unit : is_unit given.unit ≡ true = not-false _ twenty_three.0 in
-    let id : is_id given.id ≡ true = not-false _ twenty.0 in
+    let passed = first_none _ given e in
+    let unit : is_unit given.unit ≡ true = not-false _ passed.1.1.1.0 in
+    let id : is_id given.id ≡ true = not-false _ passed.0 in
     let id_size : length given.id ≡ 16 = eqb-true _ _ (both_true (eqb (length given.id) 16) _ id).0 in
     let password : (leb (length given.password) 8 ≡ true) × (all_alphanumeric given.password ≡ true) =
-    both_true (leb (length given.password) 8) _ (not-false _ twenty_one.0) in
+    both_true (leb (length given.password) 8) _ (not-false _ passed.1.0) in
     parts_sound (start_board given)
     (record {
       id = id;
       size = password.0;
       password = rw (take_at given.password (replicate (8 - length given.password) 0) (length given.password) refl) password.1;
-      mode = not-false _ twenty_two.0;
+      mode = not-false _ passed.1.1.0;
       sized = record { store = start_sized given.id given.unit; schedule = schedule.start_sized };
       unit = ap is_unit (start_unit given) ∙ unit;
       held = start_sound given.id given.unit id_size;

@@ -1,3 +1,4 @@
+pub mod Earliest
 pub mod StepRefusals
 pub mod Soundness
 pub mod Refused

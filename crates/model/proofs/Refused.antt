@@ -6,7 +6,7 @@ use mathlib.Core.List.{List, [], ◌∷◌}
 use mathlib.Core.Logic.{◌↔◌, ◌⊎◌, inl, inr, ⊎_elim}
 use mathlib.Core.Option.{Option, none, some, or_else}
 use Rattle.std.specs.declared.result.Result.TheVariants.{Ok, Err}
-use mathlib.Core.Path.{◌≡◌, refl, ap, subst, ◌∙◌}
+use mathlib.Core.Path.{◌≡◌, refl, ap, ◌∙◌}
 use borrow.Author.Tests.{ltb-false, le-ltb, le-leb, lt-leb, ne_eqb, eqb-true, not-true, not-false}
 use lib.Dec.{eqb, leb}
 use lib.ListN.{length, drop}
@@ -20,7 +20,6 @@ use Rattle.framing.specs.Packet.{packet_refusals, packet_refusal}
 use Rattle.framing.specs.Refusal.{Rule, first_refusal}
 use Rattle.refusals.specs.declared.Refusal.{Refusal}
 use Rattle.refusals.specs.declared.Refusal.TheVariants.{BadId, BadPassword, BadMode, BadUnitType}
-use Rattle.framing.proofs.Refusals.{not_refused}
 use Rattle.framing.proofs.Writing.{length_packet}
 use Rattle.block.specs.Command.{Report}
 use Rattle.store.specs.Start.{start}
@@ -29,41 +28,12 @@ use Rattle.model.specs.Conditions.{other_than_reads}
 use Rattle.model.specs.Discovery.{discovery_refusals}
 use Rattle.model.specs.Measurement.{measure_refusals, measure_refusal, measured_by, measured_board}
 use Rattle.model.specs.Record.{verdict_of, client, access_point, is_mode, is_id, is_unit, password_of, unit_of, SetUp, set_up_refusals, set_up_refusal, board_of, set_up_board, sound}
-use Rattle.model.specs.Refusals.{Earliest, first, later, NoneApplies, Numbered, Silent, Responds, PacketsAnswered, Authorized, AuthorizedAnswered, MeasurementsAnswered, SetUpsAnswered, JudgesUnit, UnitsJudged}
+use Rattle.model.specs.Refusals.{Earliest, NoneApplies, Numbered, Silent, Responds, PacketsAnswered, Authorized, AuthorizedAnswered, MeasurementsAnswered, SetUpsAnswered, JudgesUnit, UnitsJudged}
 use Rattle.model.specs.Step.{Call, Request, request, is_discovery, other_id, reports_of, response, request_refusals, step_refusals, step_refusal, Outcome, outcome_of, answer_with, outcome_by, step}
+pub use Rattle.model.proofs.Earliest.{first_earliest, earliest_first, none_first, first_none}
 use Rattle.model.proofs.Soundness.{sound_parts, id_length}
 use Rattle.model.proofs.StepRefusals.{no_refusal, request_refusal_by, step_refusal_by, step_refused, step_answered, passed_request, PassedStep, passed_step}
 use Rattle.model.specs.declared.Answer.TheVariants as answer
-
--- what the first refusal of a list says of its conditions, and back
-module _ {Asked : Type 0} where
-  pub first_earliest : (rows : List (Rule Asked)) (asked : Asked) {refusal : Refusal} → first_refusal rows asked ≡ some refusal → Earliest rows asked refusal
-  unfolding first_refusal
-  first_earliest [] asked e = absurd cc
-  first_earliest (row ∷ rows) asked {refusal} e = decided (row.applies asked) refl e (first_earliest rows asked)
-    where
-      decided :
-          (applies : Bool) → row.applies asked ≡ applies → cond applies (some row.refusal) (first_refusal rows asked) ≡ some refusal
-          → (first_refusal rows asked ≡ some refusal → Earliest rows asked refusal) → Earliest (row ∷ rows) asked refusal
-      decided true h e after = subst (λ (r : Refusal). Earliest (row ∷ rows) asked r) (cc) (first h)
-      decided false h e after = later h (after e)
-
-  pub earliest_first : {rows : List (Rule Asked)} {asked : Asked} {refusal : Refusal} → Earliest rows asked refusal → first_refusal rows asked ≡ some refusal
-  unfolding first_refusal
-  earliest_first (first h) = rw h
-  earliest_first (later h after) = rw (h, earliest_first after)
-
-  pub none_first : (rows : List (Rule Asked)) (asked : Asked) → NoneApplies rows asked → first_refusal rows asked ≡ none
-  unfolding first_refusal
-  none_first [] asked h = refl
-  none_first (row ∷ rows) asked h = rw (h.0, none_first rows asked h.1)
-
-  pub first_none : (rows : List (Rule Asked)) (asked : Asked) → first_refusal rows asked ≡ none → NoneApplies rows asked
-  unfolding first_refusal
-  first_none [] asked e = tt
-  first_none (row ∷ rows) asked e =
-      let passed : (row.applies asked ≡ false) × (first_refusal rows asked ≡ none) = not_refused row rows asked e in
-      (passed.0, first_none rows asked passed.1)
 
 pub numbered : Numbered
 unfolding packet_refusals request_refusals step_refusals discovery_refusals measure_refusals set_up_refusals

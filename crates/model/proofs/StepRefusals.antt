@@ -17,6 +17,7 @@ use Rattle.model.specs.Record.{with_parameters}
 use Rattle.model.specs.Step.{Request, Call, request, unsound, small_buffer, other_id, wrong_password, wrong_function, malformed, discovery_writes, long_response, request_refusals, step_refusals, step_refusal, is_discovery, commands_of, reports_of, Outcome, outcome_of, next_board, answer_with, outcome_by, step}
 use Rattle.model.specs.declared.Answer.TheVariants.{Refused}
 use Rattle.model.specs.declared.Board.{Board}
+use Rattle.model.proofs.Earliest.{first_none}
 
 -- no refusal: the option is empty
 pub no_refusal : (refusal : Option Refusal) → not (is_some refusal) ≡ true → refusal ≡ none
@@ -75,13 +76,15 @@ pub record PassedRequest (r : Request) : Type 0 where
 pub passed_request : (r : Request) → first_refusal request_refusals r ≡ none → PassedRequest r
 unfolding request_refusals
 passed_request r h =
-    let seven = not_refused _ _ r h in
-    let eight = not_refused _ _ r seven.1 in
-    let nine = not_refused _ _ r eight.1 in
-    let ten = not_refused _ _ r nine.1 in
-    let eleven = not_refused _ _ r ten.1 in
-    let twelve = not_refused _ _ r eleven.1 in
-    record { id = seven.0; password = eight.0; function = nine.0; block = ten.0; reads = eleven.0; short = twelve.0 }
+    let passed = first_none _ r h in
+    record {
+      id = passed.0;
+      password = passed.1.0;
+      function = passed.1.1.0;
+      block = passed.1.1.1.0;
+      reads = passed.1.1.1.1.0;
+      short = passed.1.1.1.1.1.0;
+    }
 
 pub record PassedStep (c : Call) : Type 0 where
   pub board : unsound c ≡ false
