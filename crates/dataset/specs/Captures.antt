@@ -4,7 +4,7 @@ use Rattle.std.proofs.Math.Option.{none, some}
 use Rattle.std.proofs.Math.Option as math
 use Rattle.refusals.specs.Refusals.{number_of}
 use Rattle.refusals.specs.declared.Refusal.{Refusal}
-use Rattle.refusals.specs.declared.Refusal.TheVariants.{ShortBuffer, UnknownVersion, WrongRecord}
+use Rattle.refusals.specs.declared.Refusal.TheVariants.{ShortBuffer, UnknownVersion}
 use Rattle.octets.specs.Octets.{fits}
 use Rattle.framing.specs.Refusal.{first_refusal}
 use Rattle.captures.specs.Form.{version_number, newest, record_bytes, head_bytes}

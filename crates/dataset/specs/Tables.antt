@@ -1,7 +1,6 @@
 -- The answers of the calls on tables in numbers, for callers in other languages.
 use Rattle.std.specs.Prelude.{ℕ, ◌+◌, cond, List, ◌≡◌, length, Option, None, Some, Result, Ok, Err}
 use Rattle.refusals.specs.Refusals.{number_of, number_or_zero}
-use Rattle.refusals.specs.declared.Refusal.{Refusal}
 use Rattle.refusals.specs.declared.Refusal.TheVariants.{BadField, NoSpace, UnknownVersion}
 use Rattle.captures.specs.declared.Version.{Version}
 use Rattle.octets.specs.Octets.{overwrite, fits}
@@ -9,7 +8,7 @@ use Rattle.captures.specs.Reading.{records_of}
 use Rattle.captures.specs.Writing.{too_short}
 use Rattle.counts.specs.Counting.{end_of}
 use Rattle.tables.specs.Rows.{header_line}
-use Rattle.tables.specs.Exporting.{refused_count, export_of, refused_in, capture_number}
+use Rattle.tables.specs.Exporting.{refused_count, export_of, refused_in, capture_told}
 use Rattle.tables.specs.Importing.{bytes_in}
 use Rattle.exporting.specs.Exporting.{capped, exported_as, WindowCall, window_call, window_reading, window_lines, text_short, ExportsWindow}
 use Rattle.exporting.specs.declared.Exported.{Exported}
@@ -38,7 +37,7 @@ exported_in_numbers None = record { refusal = number_of NoSpace; capture = 0; le
 
 -- the contract of `udgornwy_export_table`
 pub record ExportsInNumbers (buffer capture : List ℕ) (answer : ExportedTable) (after : List ℕ) : Type 0 where
-  pub answered : answer ≡ exported_in_numbers (exported_as buffer (export_of capture) (capped (refused_in capture)) (capture_number capture))
+  pub answered : answer ≡ exported_in_numbers (exported_as buffer (export_of capture) (capped (refused_in capture)) (capture_told capture))
   pub held : after ≡ cond (too_short buffer (export_of capture)) buffer (overwrite buffer 0 (export_of capture))
 
 abbrev pub no_rows : ℕ → ExportedRows

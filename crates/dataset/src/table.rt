@@ -103,8 +103,9 @@ pub fn udgornwy_export_window(
     let Some(version) = capture::version_numbered(version) else {
         return no_rows(Refusal::UnknownVersion);
     };
-    let exported =
-        exporting::window::export_window(text, window, start, end, ids, version, boards, refused);
+    let exported = exporting::window::export_window(
+        text, window, start, end, ids, version, boards, refused,
+    );
     let Some(rows) = exported else {
         return no_rows(Refusal::NoSpace);
     };
