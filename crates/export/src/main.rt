@@ -6,7 +6,7 @@ mod stream;
 
 use std::io;
 use std::process::ExitCode;
-use stream::StreamError;
+use stream::{Ended, StreamError};
 
 // The window holds the longest head.
 const WINDOW: usize = 16384;
@@ -18,12 +18,11 @@ fn failed(rt: &HostRuntime, what: &str, error: io::Error) -> ExitCode {
 }
 
 // Writes the lines behind the table.
-fn end_table(rt: &HostRuntime, refused: u64, capture: u8) -> ExitCode {
-    let lines = tables::last_lines(refused, capture);
-    let bytes = lines.bytes;
+fn end_table(rt: &HostRuntime, ended: Ended) -> ExitCode {
+    let lines = tables::last_lines(ended.refused, refusals::number_or_zero(ended.capture));
     match rt
         .stdout()
-        .write_all(octets::first_bytes(&bytes, lines.size))
+        .write_all(octets::first_bytes(&lines.bytes, lines.size))
     {
         Ok(()) => ExitCode::SUCCESS,
         Err(error) => failed(rt, "standard output", error),
@@ -34,7 +33,7 @@ fn end_table(rt: &HostRuntime, refused: u64, capture: u8) -> ExitCode {
 fn export(rt: &HostRuntime, text: &mut [u8], window: &mut [u8], ids: &mut [u8]) -> ExitCode {
     let mut stdin = rt.stdin();
     match stream::write_table(&mut stdin, rt.stdout(), text, window, ids) {
-        Ok(ended) => end_table(rt, ended.refused, ended.capture),
+        Ok(ended) => end_table(rt, ended),
         Err(StreamError::Read(error)) => failed(rt, "standard input", error),
         Err(StreamError::Write(error)) => failed(rt, "standard output", error),
     }
