@@ -7,8 +7,7 @@ use mathlib.Core.Bool.{Bool, true, false, cond}
 use mathlib.Core.Path.{◌≡◌, refl, sym, ap, ◌∙◌}
 use borrow.Author.Tests.{lt-ltb, le-ltb}
 use lib.Dec.{ltb}
-use lib.ListN.{length, take, drop, set, length-append, length-drop, length-set}
-use lib.Seq.{take_all}
+use lib.ListN.{length, drop, set, length-append, length-drop, length-set}
 use Rattle.numerals.specs.Numerals.{digit, decimal_in, decimal, Before}
 
 pub one_digit : (digits number : ℕ) → number < 10 → decimal_in (suc digits) number ≡ digit number ∷ []
@@ -96,11 +95,3 @@ few_digits zero digits number small = omega arith
 few_digits (suc room) zero number small = omega (arith, ap length (one_digit room number (omega arith)))
 few_digits (suc room) (suc digits) number small =
     longer_by (ltb number 10) room (suc digits) number (few_digits room digits (number / 10) (tenth (suc digits) small))
-
--- bytes that end their buffer: how many they are, and what `&bytes[start..]` holds
-module _ (start : ℕ) (bytes : List ℕ) {size : ℕ} {text : List ℕ} (sized : length bytes ≡ size) (held : drop start bytes ≡ text) where
-  pub ending_size : size - start ≡ length text
-  ending_size = omega (arith, simp length-drop at (ap length held))
-
-  pub ending_part : take (size - start) (drop start bytes) ≡ text
-  ending_part = take_all (size - start) (drop start bytes) (simp length-drop (omega arith)) ∙ held
