@@ -71,6 +71,7 @@ fn line_at(place: usize, count: u64) -> PairLine
 }
 
 // What is left of some room after the lines of all counts, where they have room.
+#[tactic(auto, using(crate::proofs::Lines::room_more))]
 fn room_after(room: usize, counts: &[u64]) -> Option<usize>
     ensures { result ≡ room_after room (lines_of counts.now) }
 {
@@ -125,6 +126,7 @@ pub fn write(text: &mut [u8], counts: &[u64], refusal: u8) -> Option<usize>
 }
 
 // Writes the summary of a capture into the first bytes of `text`; the rest stays.
+#[tactic(auto, using(crate::proofs::Summaries::refused_shown))]
 pub fn summary(text: &mut [u8], capture: &[u8]) -> Option<usize>
     ensures { Shows (summary_of capture.now) text.old result text.new }
 {

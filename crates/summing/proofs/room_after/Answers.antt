@@ -1,7 +1,7 @@
 use native.Mathlib.Omega.{arith}
 use mathlib.Core.Path.{ap, ◌∙◌}
 use lib.ListN.{length}
-use Rattle.summing.proofs.Lines.{room_first, room_none, room_more, room_left}
+use Rattle.summing.proofs.Lines.{room_first, room_none, room_left}
 use Rattle.summing.proofs.room_after.Goals as goal
 
 pub loop-place-init : goal.loop-place-init
@@ -16,10 +16,3 @@ returns-in_err-left c =
     let start = c.args in
     let size = ap length (c.text.ensures ∙ c.line_at-line.ensures.held) in
     c.from_residual.ensures ∙ room_none start.room start.counts.now v.invariant c.loop-place-test.true (omega (arith, c.in_err-left.ensures))
-
-pub loop-place-preserved : goal.loop-place-preserved
-loop-place-preserved c =
-    let v = c.loop-place in
-    let start = c.args in
-    let size = ap length (c.text.ensures ∙ c.line_at-line.ensures.held) in
-    rw (c.in_ok-left.ensures.1, size) (room_more start.room start.counts.now v.invariant c.loop-place-test.true (omega (arith, c.in_ok-left.ensures.0)))

@@ -2,14 +2,9 @@ use Prim.Native.Nat.{◌≤◌}
 use mathlib.Core.Path.{sym, ◌∙◌}
 use lib.ListN.{length}
 use Rattle.counts.specs.Counting.{count_limit}
-use Rattle.summing.proofs.Summaries.{refused_shown, summary_shown}
+use Rattle.summing.proofs.Summaries.{summary_shown}
 use borrow.Author.Rules.{rules}
 use Rattle.summing.proofs.summary.Goals as goal
-
-pub returns-in-Err : goal.returns-in-Err
-returns-in-Err c =
-    let refused = sym c.«open».ensures ∙ c.in-Err.is in
-    rw (← refused_shown c.args.capture.now refused, ← c.number.ensures) c.write-in-Err.ensures
 
 pub returns-in-Ok : goal.returns-in-Ok
 returns-in-Ok c =

@@ -4,23 +4,8 @@ use mathlib.Core.Path.{sym, ap, ◌∙◌}
 use Rattle.refusals.specs.Refusals.{number_or_zero}
 use Rattle.counts.specs.Judging.{judged, in_code}
 use Rattle.counts.specs.Counting.{place_of}
-use Rattle.counts.proofs.Counted.{ended, cut, outside, same_on}
+use Rattle.counts.proofs.Counted.{same_on}
 use Rattle.counts.proofs.counting.count.Goals as goal
-
-pub returns-in-End : goal.returns-in-End
-returns-in-End c =
-    let v = c.loop-index in
-    ended c.args.version c.args.boards v.rest.now v.invariant (sym c.next_record.ensures ∙ c.in-End.is)
-
-pub returns-in-Cut : goal.returns-in-Cut
-returns-in-Cut c =
-    let v = c.loop-index in
-    cut c.args.version c.args.boards v.rest.now v.invariant (sym c.next_record.ensures ∙ c.in-Cut.is)
-
-pub returns-in-Wrong : goal.returns-in-Wrong
-returns-in-Wrong c =
-    let v = c.loop-index in
-    outside c.args.version c.args.boards v.rest.now v.invariant (sym c.next_record.ensures ∙ c.in-Wrong.is)
 
 pub loop-index-preserved : goal.loop-index-preserved
 loop-index-preserved c =

@@ -1,6 +1,0 @@
-use Rattle.numerals.specs.Numerals.{hex_bytes}
-use Rattle.tool.proofs.listing.line_start.Goals as goal
-
-pub returns : goal.returns
-unfolding hex_bytes
-returns c = rw (c.hex_byte-low_digits.ensures, c.hex_byte-high_digits.ensures)
