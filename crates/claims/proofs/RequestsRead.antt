@@ -20,7 +20,6 @@ use Rattle.framing.specs.Identity.{default_id, is_password, all_alphanumeric}
 use Rattle.framing.specs.Packet.{packet_refusal, frame_of}
 use Rattle.framing.specs.Statements.{ReadsBack}
 use Rattle.framing.proofs.ReadsWritten.{reads_written}
-use Rattle.framing.proofs.Refusals.{not_refused}
 use Rattle.block.specs.Command.{Command, is_function}
 use Rattle.block.specs.Encoding.{first_function, encodable_command, every}
 use Rattle.block.specs.Reading.{is_some}
@@ -45,17 +44,12 @@ pub record WriterTakes (given : WriteCall) : Type 0 where
 writer_takes : (given : WriteCall) → write_refusal given ≡ none → WriterTakes given
 unfolding write_refusal write_refusals
 writer_takes given h =
-    let one = not_refused _ _ given h in
-    let forty = not_refused _ _ given one.1 in
-    let twenty_one = not_refused _ _ given forty.1 in
-    let forty_one = not_refused _ _ given twenty_one.1 in
-    let forty_two = not_refused _ _ given forty_one.1 in
-    let forty_three = not_refused _ _ given forty_two.1 in
-    let password : is_password given.password ≡ true = not-false _ twenty_one.0 in
-    let id_size : eqb (length given.id) 16 ≡ true = not-false _ forty.0 in
+    let passed = first_none _ given h in
+    let id_size : eqb (length given.id) 16 ≡ true = not-false _ passed.1.0 in
+    let password : is_password given.password ≡ true = not-false _ passed.1.1.0 in
     let password_fits : leb (length given.password) 8 ≡ true = (both_true _ (all_alphanumeric given.password) password).0 in
-    let size : leb (packet_length (request_of given)) 256 ≡ true = le-leb _ 256 (ltb-false 256 (packet_length (request_of given)) forty_three.0) in
-    record { password = password; encodable = not-false _ forty_two.0; framed = λ i. id_size i && password_fits i && size i }
+    let size : leb (packet_length (request_of given)) 256 ≡ true = le-leb _ 256 (ltb-false 256 (packet_length (request_of given)) passed.1.1.1.1.1.0) in
+    record { password = password; encodable = not-false _ passed.1.1.1.1.0; framed = λ i. id_size i && password_fits i && size i }
 
 -- an answered length is the packet's, which stands in the first bytes of the buffer
 pub record PacketSent (given : WriteCall) (packet : List ℕ) : Type 0 where
