@@ -26,7 +26,7 @@ pub sizes : (version : Version) → Sizes version
 sizes One = record { some_bytes = omega arith; few_bytes = omega arith; few_boards = omega arith; counted = omega arith }
 sizes Two = record { some_bytes = omega arith; few_bytes = omega arith; few_boards = omega arith; counted = omega arith }
 
--- the version of a capture that 51 does not refuse stands in it
+-- the version of a capture that `UnknownVersion` does not refuse stands in it
 pub version_stands : (capture : List ℕ) → wrong_version capture ≡ false → is_version (version_of capture) capture ≡ true
 version_stands capture known = by_version (is_version One capture) (is_version Two capture) refl refl known
   where

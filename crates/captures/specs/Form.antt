@@ -77,10 +77,10 @@ head_bytes version ids = mark ++ bytes_of 2 (version_number version) ++ bytes_of
 abbrev pub capture_bytes : Version → List ℕ → List Record → List ℕ
 capture_bytes version ids records = head_bytes version ids ++ records_bytes version records
 
--- 52
+-- `WrongBoards`
 abbrev pub wrong_count : Version → ℕ → Bool
 wrong_count version boards = not (between 1 (board_limit version) boards)
 
--- else 53; the counter has no value outside its range
+-- else `WrongRecord`; the counter has no value outside its range
 abbrev pub fields_in_range : ℕ → ℕ → ℕ → ℕ → Bool
 fields_in_range boards index direction size = ltb index boards && leb direction 1 && leb size 256

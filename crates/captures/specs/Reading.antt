@@ -17,7 +17,7 @@ use Rattle.captures.specs.declared.reading.NextRecord.TheVariants as next
 abbrev pub is_version : Version → List ℕ → Bool
 is_version version capture = stands_at capture version_at (bytes_of 2 (version_number version))
 
--- the version of a capture that 51 does not refuse
+-- the version of a capture that `UnknownVersion` does not refuse
 abbrev pub version_of : List ℕ → Version
 version_of capture = cond (is_version One capture) One Two
 
@@ -93,7 +93,7 @@ records_of (left bytes) = []
 records_of wrong = []
 records_of (item r after) = r ∷ records_of after
 
--- 53: a record cut short, or a field outside its range
+-- `WrongRecord`: a record cut short, or a field outside its range
 unfoldable pub wrong_record : Reading → Bool
 wrong_record (left bytes) = not (eqb (length bytes) 0)
 wrong_record wrong = true
@@ -106,14 +106,14 @@ read_in version capture = read version (board_count version capture) (drop (reco
 abbrev pub reading_of : List ℕ → Reading
 reading_of capture = read_in (version_of capture) capture
 
--- 50, 51, 52, 53
+-- those of the head, then that of the records
 unfoldable pub capture_refusals : List (Rule (List ℕ))
 capture_refusals = head_refusals ++ rule WrongRecord (λ (capture : List ℕ). wrong_record (reading_of capture)) ∷ []
 
 unfoldable pub capture_refusal : List ℕ → Option Refusal
 capture_refusal capture = first_refusal capture_refusals capture
 
--- the IDs, 16 bytes each, and the records before the refusal; neither where 50 to 52 refuse the capture
+-- the IDs, 16 bytes each, and the records before the refusal; neither where the head is refused
 abbrev pub ids_as : Version → Option Refusal → List ℕ → List ℕ
 ids_as version none capture = take (16 * board_count version capture) (drop (ids_at version) capture)
 ids_as version (some refusal) capture = []

@@ -74,7 +74,7 @@ WritesRead =
     (capture : List ℕ) → Bytes capture → capture_refusal capture ≡ none
     → capture_bytes (version_of capture) (ids_in capture) (records_in capture) ≡ capture
 
--- rewritten, a capture holds the same IDs and records; one that 53 refuses, those before it
+-- rewritten, a capture holds the same IDs and records; one that `WrongRecord` refuses, those before it
 abbrev pub RewritesHold : Type 0
 RewritesHold =
     (capture : List ℕ) → Bytes capture → head_refusal capture ≡ none

@@ -23,14 +23,14 @@ pub record Writes (refused : Option Refusal) (bytes buffer : List ℕ) (answer :
   pub answered : answer ≡ written_as refused bytes
   pub held : after ≡ buffer_as refused buffer bytes
 
--- 52: the IDs are not 16 bytes each, or not those of 1 to as many boards as the version has
+-- `WrongBoards`: the IDs are not 16 bytes each, or not those of 1 to as many boards as the version has
 abbrev pub wrong_ids : Version → List ℕ → Bool
 wrong_ids version ids = not (eqb (length ids % 16) 0) || wrong_count version (boards_of ids)
 
 abbrev pub record_in_range : ℕ → Record → Bool
 record_in_range boards r = fields_in_range boards r.index r.direction (length r.packet)
 
--- 54
+-- `NoSpace`
 abbrev pub too_short : List ℕ → List ℕ → Bool
 too_short buffer bytes = ltb (length buffer) (length bytes)
 
@@ -122,7 +122,7 @@ every_in_range boards (r ∷ rs) = record_in_range boards r && every_in_range bo
 abbrev pub bytes_given : WriteCall → List ℕ
 bytes_given call = capture_bytes newest call.ids (records_given call)
 
--- 53 is for slices that describe no records, and for a field outside its range
+-- `WrongRecord` is for slices that describe no records, and for a field outside its range
 unfoldable pub write_refusals : List (Rule WriteCall)
 write_refusals =
     rule WrongBoards (λ (call : WriteCall). wrong_ids newest call.ids)

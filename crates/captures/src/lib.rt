@@ -71,7 +71,7 @@ fn board_limit(version: Version) -> usize
     }
 }
 
-// Refusal 52: a capture has 1 to as many boards as its version has.
+// `WrongBoards`: a capture has 1 to as many boards as its version has.
 pub fn check_count(version: Version, boards: usize) -> Check
     ensures { result ≡ checked (wrong_count version boards) }
 {

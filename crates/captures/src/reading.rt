@@ -31,9 +31,9 @@ pub enum NextRecord {
     },
     // No record is left.
     End,
-    // The start of a record: refusal 53, where no more bytes come.
+    // The start of a record: `WrongRecord`, where no more bytes come.
     Cut,
-    // Refusal 53: a field outside its range.
+    // `WrongRecord`: a field outside its range.
     Wrong,
 }
 

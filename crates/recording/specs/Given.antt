@@ -1,8 +1,12 @@
--- The records that a call of `write` is given.
+-- The records that calls are given.
 use Rattle.std.specs.Prelude.{Bool, List}
-use Rattle.captures.specs.Form.{Record}
+use Rattle.captures.specs.Form.{Record, record_of}
 use Rattle.captures.specs.Writing.{record_list, describes_records, SideBySide}
+use Rattle.recording.specs.declared.Record as given
 use Rattle.recording.specs.declared.Records.{Records}
+
+abbrev pub record_given : given.Record → Record
+record_given r = record_of r.index r.direction r.counter r.packet.now
 
 abbrev pub list_of : Records → List Record
 list_of r = record_list r.indexes.now r.directions.now r.counters.now r.lengths.now r.packets.now

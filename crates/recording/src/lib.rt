@@ -1,13 +1,13 @@
 // Writes a capture of version 2, or its head and its records one at a time, into a lent buffer, as `captures` defines their bytes.
 #![tactic(auto)]
 
-ghost use Rattle.std.specs.Prelude.{true, not, ◌++◌, ◌≡◌, ◌+◌, ◌*◌, ◌≤◌, ltb, length};
+ghost use Rattle.std.specs.Prelude.{true, not, ◌++◌, ◌≡◌, ◌+◌, ◌*◌, ◌<◌, ◌≤◌, ltb, length, get_or};
 ghost use Rattle.octets.specs.Octets.{overwrite, Overwrites};
 ghost use Rattle.framing.specs.Refusal.{checked};
 ghost use Rattle.captures.specs.Form.{mark, version_number, newest, index_size, ids_at, packet_at, board_limit, record_of, record_bytes, records_bytes, head_bytes, capture_bytes, boards_of};
 ghost use Rattle.captures.specs.Numbers.{bytes_of};
-ghost use Rattle.recording.specs.Given.{list_of, describes, StandSideBySide};
-ghost use Rattle.captures.specs.Writing.{wrong_ids, head_call, WritesHead, record_call, WritesRecord, every_in_range, write_call, WritesCapture};
+ghost use Rattle.recording.specs.Given.{record_given, list_of, describes, StandSideBySide};
+ghost use Rattle.captures.specs.Writing.{wrong_ids, head_call, WritesHead, record_call, WritesRecord, record_in_range, every_in_range, write_call, WritesCapture};
 
 use captures::Version;
 use framing::Check;
@@ -65,32 +65,51 @@ pub fn write_head(buffer: &mut [u8], ids: &[u8]) -> Result<usize, Refusal>
     Ok(captures::IDS_AT + ids.len())
 }
 
-// What stands before the packet of a record.
-#[tactic(auto, unfolding(captures::specs::Numbers::bytes_of))]
-fn record_start(index: u16, direction: u8, counter: u32, size: usize) -> [u8; captures::PACKET_AT]
-    ensures { result ≡ bytes_of (index_size newest) index ++ bytes_of 1 direction ++ bytes_of 4 counter ++ bytes_of 2 size }
-{
-    let [index_low, index_high] = index.to_le_bytes();
-    let [first, second, third, fourth] = counter.to_le_bytes();
-    let [size_low, size_high] = ((size % 65536) as u16).to_le_bytes();
-    [
-        index_low, index_high, direction, first, second, third, fourth, size_low, size_high,
-    ]
+// A record: the index of its board, its direction, its millisecond counter and its packet.
+#[derive(Clone, Copy)]
+pub struct Record<'a> {
+    pub index: u16,
+    pub direction: u8,
+    pub counter: u32,
+    pub packet: &'a [u8],
 }
 
-// Puts a record into `buffer` from `at` on, and says whether it fits.
-pub fn put_record(
-    buffer: &mut [u8],
-    at: usize,
-    index: u16,
-    direction: u8,
-    counter: u32,
-    packet: &[u8],
-) -> bool
-    ensures { Overwrites buffer.old at (record_bytes newest (record_of index direction counter packet.now)) result buffer.new }
-{
-    let start = record_start(index, direction, counter, packet.len());
-    octets::overwrite_pair(buffer, at, &start, packet)
+impl<'a> Record<'a> {
+    // Whether the fields are in their ranges.
+    fn is_in_range(&self, boards: usize) -> bool
+        ensures { result ≡ record_in_range boards (record_given self.now) }
+    {
+        captures::in_range(boards, self.index, self.direction, self.packet.len())
+    }
+
+    // What stands before the packet.
+    #[tactic(auto, unfolding(captures::specs::Numbers::bytes_of))]
+    fn start(&self) -> [u8; captures::PACKET_AT]
+        ensures { result ≡ bytes_of (index_size newest) self.now.index ++ bytes_of 1 self.now.direction ++ bytes_of 4 self.now.counter ++ bytes_of 2 (length self.now.packet.now) }
+    {
+        let [index_low, index_high] = self.index.to_le_bytes();
+        let [first, second, third, fourth] = self.counter.to_le_bytes();
+        let [size_low, size_high] = ((self.packet.len() % 65536) as u16).to_le_bytes();
+        [
+            index_low,
+            index_high,
+            self.direction,
+            first,
+            second,
+            third,
+            fourth,
+            size_low,
+            size_high,
+        ]
+    }
+
+    // Puts the record into `buffer` from `at` on, and says whether it fits.
+    pub fn put(&self, buffer: &mut [u8], at: usize) -> bool
+        ensures { Overwrites buffer.old at (record_bytes newest (record_given self.now)) result buffer.new }
+    {
+        let start = self.start();
+        octets::overwrite_pair(buffer, at, &start, self.packet)
+    }
 }
 
 // Writes a record of a capture of so many boards into the first bytes of `buffer`; the rest stays.
@@ -109,10 +128,16 @@ pub fn write_record(
     let Check::Passed = captures::check_count(Version::Two, count) else {
         return Err(Refusal::WrongBoards);
     };
-    if !captures::in_range(count, index, direction, packet.len()) {
+    let record = Record {
+        index,
+        direction,
+        counter,
+        packet,
+    };
+    if !record.is_in_range(count) {
         return Err(Refusal::WrongRecord);
     }
-    if !put_record(buffer, 0, index, direction, counter, packet) {
+    if !record.put(buffer, 0) {
         return Err(Refusal::NoSpace);
     }
     Ok(captures::PACKET_AT + packet.len())
@@ -141,6 +166,20 @@ impl<'a> Records<'a> {
         framing::passed_if(side_by_side && octets::adds_up(self.lengths, self.packets.len()))
     }
 
+    // The record at a place in the slices, with this packet.
+    fn record(&self, place: usize, packet: &'a [u8]) -> Record<'a>
+        requires side_by_side { StandSideBySide self.now }
+        requires place_in_bounds { place < length self.now.lengths.now }
+        ensures { record_given result ≡ record_of (get_or self.now.indexes.now place 0) (get_or self.now.directions.now place 0) (get_or self.now.counters.now place 0) packet.now }
+    {
+        Record {
+            index: self.indexes[place],
+            direction: self.directions[place],
+            counter: self.counters[place],
+            packet,
+        }
+    }
+
     // Whether the fields of each record are in their ranges.
     #[tactic(auto, using(captures::proofs::Lists::every_step, captures::proofs::Lists::list_end), unfolding(captures::specs::Writing::every_in_range))]
     fn check_fields(&self, boards: usize) -> Check
@@ -150,8 +189,8 @@ impl<'a> Records<'a> {
         let mut left = self.packets;
         for (i, length) in self.lengths.iter().enumerate() {
             let size = usize::from(*length);
-            let packet = octets::first_bytes(left, size);
-            if !captures::in_range(boards, self.indexes[i], self.directions[i], packet.len()) {
+            let record = self.record(i, octets::first_bytes(left, size));
+            if !record.is_in_range(boards) {
                 return Check::Failed;
             }
             left = octets::bytes_after(left, size);
@@ -186,16 +225,9 @@ impl<'a> Records<'a> {
         let mut left = self.packets;
         for (i, length) in self.lengths.iter().enumerate() {
             let size = usize::from(*length);
-            let packet = octets::first_bytes(left, size);
-            put_record(
-                buffer,
-                place,
-                self.indexes[i],
-                self.directions[i],
-                self.counters[i],
-                packet,
-            );
-            place += captures::PACKET_AT + packet.len();
+            let record = self.record(i, octets::first_bytes(left, size));
+            record.put(buffer, place);
+            place += captures::PACKET_AT + record.packet.len();
             left = octets::bytes_after(left, size);
         }
         place

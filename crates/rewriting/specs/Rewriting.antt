@@ -6,10 +6,11 @@ use Rattle.refusals.specs.Refusals.{number_of}
 use Rattle.refusals.specs.declared.Refusal.{Refusal}
 use Rattle.refusals.specs.declared.Refusal.TheVariants.{NoSpace, WrongRecord}
 use Rattle.captures.specs.Form.{newest, records_bytes, head_bytes, capture_bytes}
-use Rattle.captures.specs.Reading.{Reading, reading_of, records_of, wrong_record, head_refusals, ids_in, records_in}
+use Rattle.captures.specs.Reading.{Reading, read, reading_of, records_of, wrong_record, head_refusals, ids_in, records_in}
 use Rattle.captures.specs.Writing.{buffer_as, too_short}
 use Rattle.rewriting.specs.declared.Extent.{Extent}
 use Rattle.rewriting.specs.declared.Extent.TheVariants as extent
+use Rattle.rewriting.specs.declared.Records.{Records}
 use Rattle.rewriting.specs.declared.Rewritten.{Rewritten}
 use Rattle.rewriting.specs.declared.Rewritten.TheVariants.{Whole, Part, Refused}
 
@@ -19,6 +20,10 @@ records_read reading = records_bytes newest (records_of reading)
 
 abbrev pub bytes_read : List ℕ → Reading → List ℕ
 bytes_read ids reading = head_bytes newest ids ++ records_read reading
+
+-- what is read of the records that a capture holds
+abbrev pub reading_given : Records → Reading
+reading_given r = read r.version r.boards r.bytes.now
 
 -- a capture as it is rewritten
 abbrev pub rewritten : List ℕ → List ℕ
@@ -35,7 +40,7 @@ rewrite_call buffer capture = record { buffer = buffer; capture = capture }
 abbrev pub capture_of : RewriteCall → List ℕ
 capture_of call = call.capture
 
--- 50, 51, 52, 54
+-- those of the head, then `NoSpace`
 unfoldable pub rewrite_refusals : List (Rule RewriteCall)
 rewrite_refusals =
     map (rule_of capture_of) head_refusals ++ rule NoSpace (λ (call : RewriteCall). too_short call.buffer (rewritten call.capture)) ∷ []
@@ -43,7 +48,7 @@ rewrite_refusals =
 unfoldable pub rewrite_refusal : RewriteCall → Option Refusal
 rewrite_refusal call = first_refusal rewrite_refusals call
 
--- the answer: the length of the bytes of all of the capture, or of a part where 53 refuses it, or the refusal
+-- the answer: the length of the bytes of all of the capture, or of a part where `WrongRecord` refuses it, or the refusal
 abbrev pub rewritten_as : Option Refusal → List ℕ → Rewritten
 rewritten_as none capture = cond (wrong_record (reading_of capture)) (Part (length (rewritten capture))) (Whole (length (rewritten capture)))
 rewritten_as (some refusal) capture = Refused refusal

@@ -22,7 +22,7 @@ RewriteKeeps =
     (call : RewriteCall) (answer : Rewritten) (after : List ℕ) → Bytes call.capture → rewrite_refusal call ≡ none → Rewrites call answer after
     → Holds call after
 
--- a refusal of the capture is told, 53 too, where the buffer is long enough
+-- a refusal of the capture is told, `WrongRecord` too, where the buffer is long enough
 abbrev pub RewriteTells : Type 0
 RewriteTells =
     (call : RewriteCall) → too_short call.buffer (rewritten call.capture) ≡ false

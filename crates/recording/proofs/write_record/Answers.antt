@@ -10,5 +10,5 @@ use Rattle.recording.proofs.write_record.Goals as goal
 pub returns : goal.returns
 unfolding record_call_refusals first_refusal
 returns c =
-    let told = put c.put_record.ensures c.if-not-put_record.false in
+    let told = put c.put.ensures c.if-not-put.false in
     written_as (grind (arith, common_steps, told.0)) (sym (length_record newest _)) told.1

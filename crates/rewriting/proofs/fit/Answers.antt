@@ -1,7 +1,0 @@
-use Rattle.std.proofs.Common.{arith}
-use Rattle.std.proofs.lemmas.Grind.{common_steps}
-use Rattle.rewriting.proofs.Steps.{fitted_step}
-use Rattle.rewriting.proofs.fit.Goals as goal
-
-pub loop-packet-preserved : goal.loop-packet-preserved
-loop-packet-preserved c = grind (arith, common_steps, fitted_step c.args.version c.args.boards c.loop-packet.rest.now c.loop-packet.left)
