@@ -6,7 +6,7 @@ use mathlib.Core.Bool.{true, false, and-false}
 use mathlib.Core.List.{List, [], ◌∷◌}
 use mathlib.Core.Path.{◌≡◌}
 use borrow.Author.Tests.{lt-leb, le-leb}
-use lib.ListN.{length, drop, get_or}
+use lib.ListN.{length, drop, get_or, drop_of_length-le}
 use lib.Seq.{drop-cons}
 use Rattle.octets.specs.Octets.{between}
 use Rattle.numerals.specs.Numerals.{number_from}
@@ -23,9 +23,9 @@ at_least so_far (digit ∷ digits) = omega (arith, at_least (so_far * 10 + (digi
 pub too_large : (so_far : ℕ) (digits : List ℕ) → counter_limit < so_far → digits_read so_far digits ≡ None
 too_large so_far digits h = rw (lt-leb (number_from so_far digits) counter_limit (omega (arith, at_least so_far digits)), and-false (all_digits digits))
 
-pub all_read : (so_far : ℕ) → so_far ≤ counter_limit → digits_read so_far [] ≡ Some so_far
+pub all_read : (so_far : ℕ) (digits : List ℕ) (i : ℕ) → length digits ≤ i → so_far ≤ counter_limit → digits_read so_far (drop i digits) ≡ Some so_far
 unfolding all_digits number_from
-all_read so_far h = rw (le-leb so_far counter_limit h)
+all_read so_far digits i ends h = rw (drop_of_length-le digits ends, le-leb so_far counter_limit h)
 
 module _ (so_far : ℕ) (digits : List ℕ) (i : ℕ) (h : i < length digits) where
   pub next_digit : between 0x30 0x39 (get_or digits i 0) ≡ true → digits_read so_far (drop i digits) ≡ digits_read (so_far * 10 + (get_or digits i 0 - 0x30)) (drop (i + 1) digits)

@@ -3,7 +3,6 @@ pub mod Counters
 pub mod Sizes
 pub mod Splits
 pub mod RowForms
-pub mod Headers
 pub mod NextRows
 pub mod Places
 pub mod ReadsTables

@@ -72,7 +72,7 @@ module _ (text : List ℕ) where
     ended = ltb-true _ _ right.line_ended
 
     long : length first.text ≡ line_size text
-    long = length-take-le (line_size text) text (line_within text).within
+    long = length-take-le (line_size text) text (line_within text)
 
     stands : {line : List ℕ} → quoted fields ≡ line → text ≡ line ++ behind
     stands e = sym (take-append-drop (line_size text) text) ∙ ap (λ (l : List ℕ). l ++ behind) (sym (fields_quoted first.text fields right.found) ∙ e)
@@ -96,7 +96,7 @@ module _ (text : List ℕ) where
         ∙ append_assoc place.front (value ++ quote ∷ []) behind
         ∙ ap (λ (l : List ℕ). place.front ++ l) (append_assoc value (quote ∷ []) behind) in
         let whole : length (quoted fields) ≡ line_size text = ap length (fields_quoted first.text fields right.found) ∙ long in
-        let after : length text - (line_size text - 1) ≡ length (quote ∷ behind) = omega (arith, length-drop (line_size text) text, (line_within text).within, value_within place) in
+        let after : length text - (line_size text - 1) ≡ length (quote ∷ behind) = omega (arith, length-drop (line_size text) text, line_within text, value_within place) in
         field_part place.front value (quote ∷ behind) split (ap (λ (n : ℕ). n + (length value - 1)) after ∙ omega arith) after
 
     report_same :

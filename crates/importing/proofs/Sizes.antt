@@ -1,5 +1,5 @@
 -- The sizes of a line and of a field, byte by byte.
-use Prim.Native.Nat.{ℕ, suc, ◌+◌, ◌-◌, ◌<◌, ◌≤◌}
+use Prim.Native.Nat.{ℕ, suc, ◌+◌, ◌<◌, ◌≤◌}
 use native.Mathlib.Numerals.{add-one}
 use native.Mathlib.Omega.{arith}
 use mathlib.Core.Bool.{Bool, true, false, cond, ◌&&◌, and-false}
@@ -61,9 +61,9 @@ module _ (text : List ℕ) (at : ℕ) where
   other_second h other = line_at h ∙ rw (ne_eqb _ _ other, and-false (eqb (get_or text at 0) 0x0D))
 
 -- a line is the whole text, or its CR LF stands behind it
-pub record Within (size whole : ℕ) : Type 0 where
-  pub within : size ≤ whole
-  pub ended : size < whole → size + 2 ≤ whole
+record Within (size whole : ℕ) : Type 0 where
+  within : size ≤ whole
+  ended : size < whole → size + 2 ≤ whole
 
 -- a line feed is a byte
 some_bytes : (s : List ℕ) → eqb (get_or s 0 0) 0x0A ≡ true → 1 ≤ length s
@@ -76,11 +76,13 @@ size_by true c s e rest =
     record { within = omega arith; ended = λ h. omega arith }
 size_by false c s e rest = record { within = omega (arith, rest.within); ended = λ h. omega (arith, rest.ended (omega arith)) }
 
-pub line_within : (text : List ℕ) → Within (line_size text) (length text)
+within : (text : List ℕ) → Within (line_size text) (length text)
 unfolding line_size
-line_within [] = record { within = omega arith; ended = λ h. omega arith }
-line_within (c ∷ s) = size_by (ends_here (c ∷ s)) c s refl (line_within s)
+within [] = record { within = omega arith; ended = λ h. omega arith }
+within (c ∷ s) = size_by (ends_here (c ∷ s)) c s refl (within s)
 
--- what is left behind a line and its end
-pub left_behind : (whole : ℕ) {size line : ℕ} → size ≡ line → whole - size - 2 ≡ whole - (line + 2)
-left_behind whole e = omega arith
+pub line_within : (text : List ℕ) → line_size text ≤ length text
+line_within text = (within text).within
+
+pub end_within : (text : List ℕ) → line_size text < length text → line_size text + 2 ≤ length text
+end_within text = (within text).ended

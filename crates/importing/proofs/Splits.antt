@@ -110,7 +110,7 @@ more_end (q ∷ []) any more = absurd (more refl)
 more_end (q ∷ c ∷ s) any more = refl
 
 -- a line with a field is not empty
-pub some_line : (line : List ℕ) → (field_end line ≡ ends.Wrong → ⊥) → 0 < length line
+some_line : (line : List ℕ) → (field_end line ≡ ends.Wrong → ⊥) → 0 < length line
 some_line [] right = absurd (right refl)
 some_line (c ∷ s) right = omega arith
 
@@ -132,8 +132,12 @@ module _ (line : List ℕ) (count : ℕ) where
   pub count_wrong : field_end line ≡ ends.Wrong → counted count (opening line) ≡ answers.None
   count_wrong h = by_end h
 
-pub after_shorter : (line : List ℕ) → length (after_field line) ≤ length line - 1
-after_shorter line = simp length-drop (omega arith)
+-- less is left where another field follows
+pub less_left : (line : List ℕ) → field_end line ≡ ends.Comma → length (after_field line) + 1 ≤ length line
+less_left line e =
+    let some : 0 < length line = some_line line (λ wrong. cc) in
+    let shorter : length (after_field line) ≤ length line - 1 = simp length-drop (omega arith) in
+    omega arith
 
 -- what the answer of `count_fields` tells
 module _ {answer : answers.Option ℕ} where

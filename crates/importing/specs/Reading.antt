@@ -1,14 +1,16 @@
 -- Reading a table line by line: what the code answers.
-use Rattle.std.specs.Prelude.{ℕ, ◌+◌, ◌-◌, cond, Result, Ok, Err, List, [], ◌∷◌, ltb, eqb, length, drop, get_or}
+use Rattle.std.specs.Prelude.{ℕ, ◌+◌, ◌-◌, true, cond, Result, Ok, Err, List, [], ◌∷◌, ltb, eqb, length, drop, get_or}
 use Rattle.std.proofs.Math.Option.{Option, none, some}
 use Rattle.refusals.specs.Refusals.{number_of}
 use Rattle.refusals.specs.declared.Refusal.{Refusal}
 use Rattle.refusals.specs.declared.Refusal.TheVariants.{TableHeader}
 use Rattle.framing.specs.Refusal.{first_refusal}
 use Rattle.block.specs.Reading.{part_of}
-use Rattle.tables.specs.Lines.{line_size, first_line}
+use Rattle.tables.specs.Lines.{line_of, line_size, first_line}
 use Rattle.tables.specs.Rows.{row_of}
 use Rattle.tables.specs.Importing.{number_in, bytes_in, field_at, fields_in, header_refusals, line_refusals, report_of, Imported, end, refused, row}
+use Rattle.importing.specs.Forms.{fields_read}
+use Rattle.importing.specs.declared.forms.RowFields.{RowFields}
 use Rattle.importing.specs.declared.reading.Rest.{Rest}
 use Rattle.importing.specs.declared.reading.RefusedLine.{RefusedLine}
 use Rattle.importing.specs.declared.reading.NextRow.{NextRow}
@@ -40,6 +42,14 @@ opened_as (some refusal) text = Err (refused_line refusal 1)
 
 abbrev pub opened_of : List ℕ → Result Rest RefusedLine
 opened_of text = opened_as (header_refusal text) text
+
+-- the fields of a line that ends in CR LF, or its refusal
+abbrev pub read_as : Option Refusal → List (List ℕ) → Result RowFields Refusal
+read_as none fields = Ok (fields_read fields)
+read_as (some refusal) fields = Err refusal
+
+abbrev pub row_read : List ℕ → Result RowFields Refusal
+row_read line = read_as (first_refusal line_refusals (line_of line true)) (fields_in (line_of line true))
 
 -- the answer of `next_row`, by the fields of the line: in front of the digits of the board stand a quote and an x, behind those of the
 -- value a quote

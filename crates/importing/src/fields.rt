@@ -65,6 +65,7 @@ pub(crate) fn after_field(line: &[u8]) -> &[u8]
 }
 
 // How many fields a line has; none where the quoting fails.
+#[tactic(auto, using(crate::proofs::Splits::less_left, crate::proofs::Splits::count_comma, crate::proofs::Splits::count_line, crate::proofs::Splits::count_wrong))]
 pub(crate) fn count_fields(line: &[u8]) -> Option<usize>
     ensures { result ≡ counted 0 (fields_of line.now) }
 {
@@ -74,8 +75,7 @@ pub(crate) fn count_fields(line: &[u8]) -> Option<usize>
         match field_end(rest) {
             FieldEnd::Comma => {
                 count += 1;
-                let next = after_field(rest);
-                rest = next;
+                rest = after_field(rest);
             }
             FieldEnd::Line => return Some(count + 1),
             FieldEnd::Wrong => return None,

@@ -46,6 +46,7 @@ fn is_board(field: &[u8]) -> bool
     is_hex_field(field)
 }
 
+#[tactic(auto, unfolding(numerals::specs::Numerals::decimal_in))]
 fn is_direction(field: &[u8]) -> bool
     ensures { result ≡ is_direction field.now }
 {
@@ -81,6 +82,7 @@ fn leads_right(digits: &[u8]) -> bool
 }
 
 // The number of decimal digits; none where another byte stands among them, or it is over 32 bits.
+#[tactic(auto, using(crate::proofs::Counters::too_large, crate::proofs::Counters::all_read, crate::proofs::Counters::next_digit, crate::proofs::Counters::no_digit))]
 fn read_digits(digits: &[u8]) -> Option<u32>
     ensures { result ≡ digits_read 0 digits.now }
 {

@@ -31,6 +31,7 @@ fn hex_value(digit: u8) -> u8
 }
 
 // The byte of a pair of digits, by its index.
+#[tactic(auto, using(crate::proofs::HexDigits::hex_at, crate::proofs::HexDigits::byte_at))]
 pub(crate) fn byte_in(digits: &[u8], index: usize) -> u8
     requires digits_value { all_hex digits.now ≡ true }
     requires index_in_bounds { 2 * index + 1 < length digits.now }
