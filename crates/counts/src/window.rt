@@ -7,7 +7,6 @@ use captures::Version;
 use refusals::Refusal;
 
 // Moves the bytes that are left, the last of the first `end`, to the start of a window; nothing where there are not so many.
-#[tactic(auto, using(crate::proofs::Moving::none_last, crate::proofs::Moving::last_moved))]
 pub fn keep(window: &mut [u8], end: usize, ending: Result<usize, Refusal>)
     ensures { window.new ≡ overwrite window.old 0 (last_of ending (take end window.old)) }
 {
