@@ -3,9 +3,8 @@ use crate::fields::Fault;
 use crate::{board_calls, capture_calls, output, record_calls, table_calls, tool_calls};
 use model::Board;
 use std::alloc::Global;
-use std::io;
 use std::io::Write;
-use std::str;
+use std::{io, str};
 
 // The most characters of a line.
 const LONGEST: usize = 65536;
@@ -23,13 +22,25 @@ fn call<W: Write + Drop>(
     out: &mut W,
 ) -> Result<(), Fault> {
     match fields {
-        ["setup", id, password, mode] => board_calls::set_up(board, id, password, mode, None, alloc, out),
-        ["setup", id, password, mode, unit] => board_calls::set_up(board, id, password, mode, Some(*unit), alloc, out),
+        ["setup", id, password, mode] => board_calls::set_up(
+            board, id, password, mode, None, alloc, out,
+        ),
+        ["setup", id, password, mode, unit] => board_calls::set_up(
+            board,
+            id,
+            password,
+            mode,
+            Some(*unit),
+            alloc,
+            out,
+        ),
         ["packet", length, packet] => board_calls::packet(board, length, packet, alloc, out),
         ["measure", number, value] => board_calls::measure(board, number, value, alloc, out),
         ["poke", name, value] => record_calls::poke(board, name, value, alloc, out),
         ["record"] => record_calls::show(board, out),
-        ["write", length, id, password, commands @ ..] => tool_calls::write(length, id, password, commands, alloc, out),
+        ["write", length, id, password, commands @ ..] => tool_calls::write(
+            length, id, password, commands, alloc, out,
+        ),
         ["read", id, password, packet] => tool_calls::read(id, password, packet, alloc, out),
         ["list", packet] => tool_calls::list(packet, alloc, out),
         ["import", table] => table_calls::import(table, alloc, out),
@@ -38,10 +49,16 @@ fn call<W: Write + Drop>(
 }
 
 // Makes a call on a capture.
-fn call_on_capture<W: Write + Drop>(fields: &[&str], alloc: Global, out: &mut W) -> Result<(), Fault> {
+fn call_on_capture<W: Write + Drop>(
+    fields: &[&str],
+    alloc: Global,
+    out: &mut W,
+) -> Result<(), Fault> {
     match fields {
         ["capread", capture] => capture_calls::read(capture, alloc, out),
-        ["capwrite", room, ids, records @ ..] => capture_calls::write(room, ids, records, alloc, out),
+        ["capwrite", room, ids, records @ ..] => capture_calls::write(
+            room, ids, records, alloc, out,
+        ),
         ["summary", capture] => capture_calls::summary(capture, alloc, out),
         ["rewrite", room, capture] => capture_calls::rewrite(room, capture, alloc, out),
         ["export", room, capture] => table_calls::export(room, capture, alloc, out),

@@ -61,7 +61,10 @@ pub(crate) fn read<W: Write>(capture: &str, alloc: Global, out: &mut W) -> Resul
         Ok(head) => {
             write!(out, "version {}", captures::version_number(head.version))?;
             let size = framing::ID_SIZE * usize::from(head.boards);
-            put_ids(out, octets::first_bytes(octets::bytes_after(&capture, head.ids), size))?;
+            put_ids(
+                out,
+                octets::first_bytes(octets::bytes_after(&capture, head.ids), size),
+            )?;
             put_records(out, octets::bytes_after(&capture, head.records), head)?;
         }
     }
@@ -86,10 +89,14 @@ fn read_record(record: &str, list: &mut Records) -> Result<(), Fault> {
     let before = list.packets.len();
     hex::decode_onto(packet, &mut list.packets)?;
     let length = list.packets.len().saturating_sub(before);
-    list.indexes.push(fields::index(index).ok_or(Fault::BadLine)?)?;
-    list.directions.push(fields::byte(direction).ok_or(Fault::BadLine)?)?;
-    list.counters.push(fields::decimal(counter).ok_or(Fault::BadLine)?)?;
-    list.lengths.push(u16::try_from(length).ok().ok_or(Fault::BadLine)?)?;
+    list.indexes
+        .push(fields::index(index).ok_or(Fault::BadLine)?)?;
+    list.directions
+        .push(fields::byte(direction).ok_or(Fault::BadLine)?)?;
+    list.counters
+        .push(fields::decimal(counter).ok_or(Fault::BadLine)?)?;
+    list.lengths
+        .push(u16::try_from(length).ok().ok_or(Fault::BadLine)?)?;
     Ok(())
 }
 
@@ -120,7 +127,11 @@ fn read_ids(field: &str, alloc: Global) -> Result<Vec<u8>, Fault> {
 }
 
 // The answer of a write, whose capture stands at the start of a lent buffer.
-fn put_written<W: Write>(out: &mut W, written: Result<usize, Refusal>, buffer: &[u8]) -> io::Result<()> {
+fn put_written<W: Write>(
+    out: &mut W,
+    written: Result<usize, Refusal>,
+    buffer: &[u8],
+) -> io::Result<()> {
     match written {
         Ok(length) => output::put_written(out, "capture", buffer, length),
         Err(refusal) => output::put_refusal(out, refusal, buffer),

@@ -55,7 +55,11 @@ pub(crate) fn put_dirty<W: Write>(out: &mut W, rest: &[u8]) -> io::Result<()> {
 }
 
 // The refusal of a call to which a buffer was lent.
-pub(crate) fn put_refusal<W: Write>(out: &mut W, refusal: Refusal, buffer: &[u8]) -> io::Result<()> {
+pub(crate) fn put_refusal<W: Write>(
+    out: &mut W,
+    refusal: Refusal,
+    buffer: &[u8],
+) -> io::Result<()> {
     put_refused(out, refusal)?;
     put_dirty(out, buffer)
 }

@@ -16,7 +16,12 @@ fn put_rows<W: Write>(out: &mut W, store: Store) -> io::Result<()> {
     for number in 0..NUMBERS {
         if store::find(store.unit, number).is_some() {
             let [page, low] = number.to_be_bytes();
-            output::put_held(out, page, low, store::held(&store.bytes, store.unit, number))?;
+            output::put_held(
+                out,
+                page,
+                low,
+                store::held(&store.bytes, store.unit, number),
+            )?;
         }
     }
     Ok(())
@@ -29,7 +34,10 @@ pub(crate) fn show<W: Write>(board: &Board, out: &mut W) -> Result<(), Fault> {
     let mode = board.mode;
     let store = board.parameters.store;
     let unit = store.unit;
-    write!(out, "record id={id} password={password} mode={mode} type={unit}")?;
+    write!(
+        out,
+        "record id={id} password={password} mode={mode} type={unit}"
+    )?;
     put_rows(out, store)?;
     if unit == rows::MICRA {
         schedule_entries::put(out, board.parameters.schedule)?;
@@ -78,16 +86,19 @@ fn write_slot(bytes: &mut [u8], place: usize, size: usize, value: &[u8], text: b
 
 // By the contract of `store::held` alone: of a store in which each byte is its own place it hands back the places of a row's value.
 // (A text's length is read there too; both texts lie far enough from the start for their whole slots.)
-fn poke_row(board: &mut Board, number: u16, value: &[u8]) {
+fn with_row(store: Store, number: u16, value: &[u8]) -> Store {
     let own = places();
-    let store = board.parameters.store;
     let held = store::held(&own, store.unit, number);
     if held.is_empty() {
-        return;
+        return store;
     }
+    let place = usize::from(held[0]);
     let mut bytes = store.bytes;
-    write_slot(&mut bytes, usize::from(held[0]), held.len(), value, is_text(number));
-    board.parameters.store.bytes = bytes;
+    write_slot(&mut bytes, place, held.len(), value, is_text(number));
+    Store {
+        unit: store.unit,
+        bytes,
+    }
 }
 
 // An entry of the schedule, which a Micra alone has.
@@ -105,7 +116,7 @@ fn poke_parameter(board: &mut Board, name: &str, value: &[u8]) -> Result<(), Fau
         return Ok(());
     }
     let number = fields::number(name).ok_or(Fault::BadLine)?;
-    poke_row(board, number, value);
+    board.parameters.store = with_row(board.parameters.store, number, value);
     Ok(())
 }
 

@@ -27,7 +27,9 @@ pub(crate) fn place_of(name: &str) -> Option<usize> {
         return None;
     };
     match (*day, *period) {
-        (b'1'..=b'7', b'1'..=b'4') => Some(4 * usize::from(*day - b'1') + usize::from(*period - b'1')),
+        (b'1'..=b'7', b'1'..=b'4') => Some(
+            4 * usize::from(*day - b'1') + usize::from(*period - b'1'),
+        ),
         _ => None,
     }
 }

@@ -4,9 +4,8 @@ use crate::{capture_calls, fields, hex, output};
 use importing::reading::{NextRow, RefusedLine, Rest};
 use refusals::Refusal;
 use std::alloc::Global;
-use std::io;
 use std::io::Write;
-use std::str;
+use std::{io, str};
 
 // export ROOM CAPTURE
 pub(crate) fn export<W: Write>(
@@ -78,7 +77,14 @@ fn put_rows<W: Write>(out: &mut W, table: &[u8], rest: Rest) -> io::Result<()> {
                 line: next,
             } => {
                 let id = octets::first_bytes(block::part(left, board, 0), 2 * framing::ID_SIZE);
-                put_row(out, id, counter, page, low, block::part(left, value, value_end))?;
+                put_row(
+                    out,
+                    id,
+                    counter,
+                    page,
+                    low,
+                    block::part(left, value, value_end),
+                )?;
                 left = block::part(left, rest, 0);
                 line = next;
             }

@@ -23,9 +23,12 @@ fn read_command(command: &str, list: &mut Commands) -> Result<(), Fault> {
     let before = list.values.len();
     hex::decode_onto(value, &mut list.values)?;
     let length = list.values.len().saturating_sub(before);
-    list.functions.push(fields::byte(function).ok_or(Fault::BadLine)?)?;
-    list.numbers.push(fields::number(number).ok_or(Fault::BadLine)?)?;
-    list.lengths.push(u16::try_from(length).ok().ok_or(Fault::BadLine)?)?;
+    list.functions
+        .push(fields::byte(function).ok_or(Fault::BadLine)?)?;
+    list.numbers
+        .push(fields::number(number).ok_or(Fault::BadLine)?)?;
+    list.lengths
+        .push(u16::try_from(length).ok().ok_or(Fault::BadLine)?)?;
     Ok(())
 }
 
@@ -43,7 +46,11 @@ fn read_commands(commands: &[&str], alloc: Global) -> Result<Commands, Fault> {
 }
 
 // The answer of a write, whose packet stands at the start of a lent buffer.
-fn put_written<W: Write>(out: &mut W, written: Result<usize, Refusal>, buffer: &[u8]) -> io::Result<()> {
+fn put_written<W: Write>(
+    out: &mut W,
+    written: Result<usize, Refusal>,
+    buffer: &[u8],
+) -> io::Result<()> {
     match written {
         Ok(length) => output::put_written(out, "packet", buffer, length),
         Err(refusal) => output::put_refusal(out, refusal, buffer),
@@ -123,7 +130,10 @@ pub(crate) fn read<W: Write>(
         Ok(block) => {
             out.write_all(b"reports")?;
             let behind = octets::bytes_after(&packet, block.block);
-            put_reports(out, octets::first_bytes(behind, block.end.saturating_sub(block.block)))?;
+            put_reports(
+                out,
+                octets::first_bytes(behind, block.end.saturating_sub(block.block)),
+            )?;
         }
     }
     Ok(())
