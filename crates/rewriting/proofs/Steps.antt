@@ -1,5 +1,5 @@
 -- What is left of a capture's records, one after another.
-use Rattle.std.proofs.Common.{◌≡◌, ℕ, ◌+◌, ◌-◌, ◌<◌, ◌≤◌, Bool, true, false, cond, List, [], ◌++◌, Option, None, Some, refl, ap, ◌∙◌, length, take, drop, arith, length-append, length-drop}
+use Rattle.std.proofs.Common.{◌≡◌, ℕ, ◌+◌, ◌-◌, ◌≤◌, Bool, true, false, cond, List, [], ◌++◌, Option, None, Some, refl, ap, ◌∙◌, length, take, drop, arith, length-append, length-drop}
 use borrow.Author.Tests.{lt-ltb, le-ltb, ltb-true, ltb-false}
 use lib.Dec.{ltb}
 use lib.Seq.{length-take-le}
@@ -10,7 +10,7 @@ use Rattle.captures.specs.declared.Version.{Version}
 use Rattle.captures.specs.declared.reading.NextRecord.{NextRecord}
 use Rattle.captures.specs.declared.reading.NextRecord.TheVariants as next
 use Rattle.captures.proofs.Lists.{length_record}
-use Rattle.captures.proofs.Next.{Placed, placed}
+use Rattle.captures.proofs.Next.{placed}
 use Rattle.captures.proofs.Records.{read_step}
 use Rattle.captures.proofs.Told.{cut_some}
 use Rattle.rewriting.specs.Rewriting.{records_read, fitted}
@@ -62,17 +62,11 @@ module _ (version : Version) (boards : ℕ) (rest : List ℕ) where
       by_found (next.Record index direction counter packet after) = refl
 
   module _ {index direction counter packet after : ℕ} (e : next_record version boards rest ≡ next.Record index direction counter packet after) where
-    pub in_place : Placed rest packet after
-    in_place = placed version boards rest e
-
     pub size : length (record_bytes newest (found index direction counter packet after)) ≡ packet_at newest + (packet - after)
     size =
-        let whole : packet - after ≤ length (drop (length rest - packet) rest) = simp length-drop (omega (arith, in_place.packet_in)) in
+        let whole : packet - after ≤ length (drop (length rest - packet) rest) = simp length-drop (omega (arith, (placed version boards rest e).packet_in)) in
         length_record newest (found index direction counter packet after)
         ∙ ap (λ (n : ℕ). packet_at newest + n) (length-take-le (packet - after) (drop (length rest - packet) rest) whole)
-
-    pub shorter : length (behind after) < length rest
-    shorter = simp length-drop (omega (arith, in_place.shorter))
 
   pub fitted_step : (room : ℕ) → fitted room (read version boards rest) ≡ fitted_by room (next_record version boards rest)
   unfolding fitted records_of records_bytes wrong_record
