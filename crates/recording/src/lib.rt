@@ -26,11 +26,10 @@ fn check_ids(ids: &[u8]) -> Check
 // What stands before the IDs.
 #[tactic(auto, unfolding(captures::specs::Numbers::bytes_of))]
 fn head_start(boards: usize) -> [u8; captures::IDS_AT]
-    requires { boards ≤ board_limit newest }
     ensures { result ≡ mark ++ bytes_of 2 (version_number newest) ++ bytes_of (index_size newest) boards }
 {
     let [version_low, version_high] = captures::version_number(Version::Two).to_le_bytes();
-    let [boards_low, boards_high] = (boards as u16).to_le_bytes();
+    let [boards_low, boards_high] = ((boards % 65536) as u16).to_le_bytes();
     [
         b'V',
         b'L',
@@ -44,7 +43,6 @@ fn head_start(boards: usize) -> [u8; captures::IDS_AT]
 
 // Puts the head into the first bytes of `buffer`, and says whether it fits.
 pub fn put_head(buffer: &mut [u8], ids: &[u8]) -> bool
-    requires { boards_of ids.now ≤ board_limit newest }
     ensures { Overwrites buffer.old 0 (head_bytes newest ids.now) result buffer.new }
 {
     let start = head_start(ids.len() / framing::ID_SIZE);

@@ -9,13 +9,13 @@ use Rattle.refusals.specs.declared.Refusal.{Refusal}
 use Rattle.refusals.specs.declared.Refusal.TheVariants.{NoSpace}
 use Rattle.framing.specs.Refusal.{rule, rule_of, first_refusal}
 use Rattle.framing.proofs.Refusals.{first_of_joined, first_of_part, refused_then, passed_then}
-use Rattle.captures.specs.Form.{newest, ids_at, board_limit, boards_of, head_bytes, capture_bytes}
+use Rattle.captures.specs.Form.{newest, ids_at, head_bytes, capture_bytes}
 use Rattle.captures.specs.Reading.{Reading, read, wrong_record, reading_of, head_refusals, head_refusal, ids_in, opened_of}
-use Rattle.captures.specs.Writing.{buffer_as, wrong_ids, too_short}
+use Rattle.captures.specs.Writing.{buffer_as, too_short}
 use Rattle.captures.specs.declared.reading.Head.{Head}
-use Rattle.captures.proofs.Lists.{length_head, few_boards}
+use Rattle.captures.proofs.Lists.{length_head}
 use Rattle.captures.proofs.Opening.{head_refused, accepted_as, reading_same, records_same}
-use Rattle.captures.proofs.Rewriting.{ids_right, ids_same}
+use Rattle.captures.proofs.Rewriting.{ids_same}
 use Rattle.rewriting.specs.Rewriting.{records_read, bytes_read, rewritten, RewriteCall, rewrite_call, capture_of, rewrite_refusals, rewrite_refusal, rewritten_as, Rewrites, fitted}
 use Rattle.rewriting.specs.declared.Extent.{Extent}
 use Rattle.rewriting.specs.declared.Extent.TheVariants as extent
@@ -84,9 +84,6 @@ module _ (buffer capture : List ℕ) where
       bytes_same : rewritten capture ≡ bytes_read ids reading
       bytes_same =
           (λ i. capture_bytes newest (sym ids_read i) (records_same capture e i)) ∙ ap (λ (l : List ℕ). bytes_read ids (read head.version head.boards l)) (sym rest_taken)
-
-      pub few : boards_of ids ≤ board_limit newest
-      few = few_boards newest ids (ap (wrong_ids newest) ids_read ∙ ids_right capture (accepted_as capture e).accepted)
 
       refused_by : (short : Bool) → ltb (length buffer) (length (bytes_read ids reading)) ≡ short → rewrite_refusal (rewrite_call buffer capture) ≡ cond short (some NoSpace) none
       refused_by short h =

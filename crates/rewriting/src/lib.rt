@@ -97,8 +97,7 @@ impl<'a> Records<'a> {
 
 // Puts the head of these IDs and what is read of the records into the first bytes of `buffer`, where they have room, and says where they end.
 fn put_all(buffer: &mut [u8], ids: &[u8], records: Records) -> usize
-    requires boards_in_bounds { boards_of ids.now ≤ board_limit newest }
-    requires records_in_bounds { length (bytes_read ids.now (reading_given records)) ≤ length buffer.old }
+    requires { length (bytes_read ids.now (reading_given records)) ≤ length buffer.old }
     ensures value { result ≡ length (bytes_read ids.now (reading_given records.entry)) }
     ensures buffer_after { buffer.new ≡ overwrite buffer.old 0 (bytes_read ids.now (reading_given records.entry)) }
 {

@@ -2,7 +2,7 @@
 use Rattle.std.proofs.Common.{arith}
 use Rattle.captures.specs.Reading.{read}
 use Rattle.rewriting.specs.declared.Extent.TheVariants.{Whole, Part}
-use Rattle.rewriting.proofs.Outcomes.{size_read, fits_not, fits, head_refuses, few, no_space, all_put}
+use Rattle.rewriting.proofs.Outcomes.{size_read, fits_not, fits, head_refuses, no_space, all_put}
 use Rattle.rewriting.proofs.rewrite.Goals as goal
 
 pub returns-in-Err : goal.returns-in-Err
@@ -16,11 +16,8 @@ returns-in_default-fit c =
     no_space c.args.buffer.now c.args.capture.now {head = c.in-Ok.head} (cc) {ids = c.first_bytes-ids.result.now} (cc) c.bytes_after-2.ensures
     (omega (arith, c.in-Some.ensures, fits_not c.in-Some.room (read c.in-Ok.head.version c.in-Ok.head.boards c.bytes_after-2.result.now) (cc)))
 
-pub put_all-end-requires-clause-boards_in_bounds : goal.put_all-end-requires-clause-boards_in_bounds
-put_all-end-requires-clause-boards_in_bounds c = few c.args.buffer.now c.args.capture.now {head = c.in-Ok.head} (cc) (cc) c.bytes_after-2.ensures
-
-pub put_all-end-requires-clause-records_in_bounds : goal.put_all-end-requires-clause-records_in_bounds
-put_all-end-requires-clause-records_in_bounds c =
+pub put_all-end-requires : goal.put_all-end-requires
+put_all-end-requires c =
     let reading = read c.in-Ok.head.version c.in-Ok.head.boards c.bytes_after-2.result.now in
     omega (arith, size_read c.first_bytes-ids.result.now reading, c.in-Some.ensures, (fits c.in-Some.room reading {found = c.in-Some-fit.extent} (cc)).0)
 
