@@ -5,7 +5,7 @@ use Rattle.std.specs.Result.{result_err}
 use Rattle.framing.specs.declared.Places.{Places}
 use Rattle.refusals.specs.declared.Refusal.{Refusal}
 use Rattle.tool.specs.Response.{response_as}
-use Rattle.counts.specs.Judging.{in_code}
+use Rattle.framing.specs.Refusal.{in_code}
 
 pub why_refused : (refused : Option Refusal) (places : Places) → result_err (response_as refused places) ≡ in_code refused
 why_refused none places = refl

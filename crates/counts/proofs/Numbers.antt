@@ -15,7 +15,8 @@ use Rattle.refusals.specs.declared.Refusal.{Refusal}
 use Rattle.refusals.specs.declared.Refusal.TheVariants.{WrongRecord}
 use Rattle.captures.specs.Reading.{Reading, left, wrong, item, wrong_record}
 use Rattle.tool.specs.Response.{response_refusals, any_response_refusals, any_response_refusal}
-use Rattle.counts.specs.Judging.{request_refusals, any_request_refusals, any_request_refusal, in_code, judged}
+use Rattle.counts.specs.Judging.{request_refusals, any_request_refusals, any_request_refusal, judged}
+use Rattle.framing.specs.Refusal.{in_code}
 use Rattle.counts.specs.Counting.{numbers_per_board, end_of, refusal_at_end}
 use Rattle.counts.specs.Statements.{NumbersBounded}
 

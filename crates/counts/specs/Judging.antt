@@ -1,8 +1,8 @@
 -- How a packet of a capture is judged: its refusal, if any.
-use Rattle.std.specs.Prelude.{ℕ, cond, Option as OptionInCode, None, Some, List, ◌++◌, map, eqb}
-use Rattle.std.proofs.Math.Option.{Option, none, some}
+use Rattle.std.specs.Prelude.{ℕ, cond, List, ◌++◌, map, eqb}
+use Rattle.std.proofs.Math.Option.{Option}
 use Rattle.framing.specs.Frame.{Frame}
-use Rattle.framing.specs.Refusal.{Rule, rule_of, first_refusal}
+use Rattle.framing.specs.Refusal.{Rule, rule_of, first_refusal, in_code}
 use Rattle.framing.specs.Packet.{packet_refusals, frame_of}
 use Rattle.refusals.specs.Refusals.{number_or_zero}
 use Rattle.refusals.specs.declared.Refusal.{Refusal}
@@ -24,11 +24,6 @@ any_request_refusal packet = first_refusal any_request_refusals packet
 -- direction 1 is a response, as the listing judges it, any other a request
 unfoldable pub judged : ℕ → List ℕ → Option Refusal
 judged direction packet = cond (eqb direction 1) (any_response_refusal packet) (any_request_refusal packet)
-
--- a refusal as the code has it
-abbrev pub in_code : Option Refusal → OptionInCode Refusal
-in_code none = None
-in_code (some refusal) = Some refusal
 
 -- its number, 0 for none
 abbrev pub judged_number : ℕ → List ℕ → ℕ

@@ -1,7 +1,8 @@
 // Judges a packet of a capture.
 ghost use Rattle.std.specs.Prelude.{◌≡◌};
 ghost use Rattle.block.specs.Request.{no_function, no_commands};
-ghost use Rattle.counts.specs.Judging.{in_code, judged};
+ghost use Rattle.framing.specs.Refusal.{in_code};
+ghost use Rattle.counts.specs.Judging.{judged};
 
 use framing::Check;
 use refusals::Refusal;

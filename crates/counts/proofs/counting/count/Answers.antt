@@ -2,7 +2,8 @@ use Prim.Native.Nat.{ℕ}
 use mathlib.Core.List.{List}
 use mathlib.Core.Path.{sym, ap, ◌∙◌}
 use Rattle.refusals.specs.Refusals.{number_or_zero}
-use Rattle.counts.specs.Judging.{judged, in_code}
+use Rattle.framing.specs.Refusal.{in_code}
+use Rattle.counts.specs.Judging.{judged}
 use Rattle.counts.specs.Counting.{place_of}
 use Rattle.counts.proofs.Counted.{same_on}
 use Rattle.counts.proofs.counting.count.Goals as goal
