@@ -51,7 +51,7 @@ abbrev pub next_numbered : Option Version → ℕ → List ℕ → CaptureRecord
 next_numbered (Some version) boards bytes = next_in_numbers (next_record version boards bytes)
 next_numbered None boards bytes = no_record 4
 
--- refusal 0: written
+-- refusal 0: written, or so many bytes are left
 abbrev pub written_reply : Result ℕ Refusal → Reply
 written_reply (Ok length) = reply_with 0 length
 written_reply (Err refusal) = reply_with (number_of refusal) 0
@@ -85,18 +85,13 @@ pub record RewritesInNumbers (call : RewriteCall) (reply : Reply) (after : List 
   pub answered : reply ≡ rewritten_reply (rewritten_as (rewrite_refusal call) call.capture)
   pub held : after ≡ buffer_as (rewrite_refusal call) call.buffer (rewritten call.capture)
 
--- refusal 0: so many bytes are left
-abbrev pub ending_reply : Result ℕ Refusal → Reply
-ending_reply (Ok size) = reply_with 0 size
-ending_reply (Err refusal) = reply_with (number_of refusal) 0
-
 -- how the records of a part of a window end
 abbrev pub window_end : Version → ℕ → ℕ → ℕ → List ℕ → Result ℕ Refusal
 window_end version boards start end window = end_of (read version boards (window_part start end window))
 
 -- counts and window as `count_window` leaves them, so that WindowsSum is of this call too
 pub record CountsInNumbers (version : Version) (boards start end : ℕ) (window before : List ℕ) (reply : Reply) (after moved : List ℕ) : Type 0 where
-  pub answered : reply ≡ ending_reply (window_end version boards start end window)
+  pub answered : reply ≡ written_reply (window_end version boards start end window)
   pub held : CountsWindow version boards start end window before (window_end version boards start end window) after moved
 
 -- counts and window as they were
@@ -110,11 +105,6 @@ abbrev pub CountsNumbered : Option Version → ℕ → ℕ → ℕ → List ℕ 
 CountsNumbered (Some version) boards start end window before reply after moved =
     CountsInNumbers version boards start end window before reply after moved
 CountsNumbered None boards start end window before reply after moved = CountsNothing window before reply after moved
-
--- 1: the text does not fit
-abbrev pub shown_as : Option ℕ → Result ℕ Refusal
-shown_as (Some length) = Ok length
-shown_as None = Err ShortBuffer
 
 -- this refusal, unless it is so
 abbrev pub refused_unless : Bool → Refusal → math.Option Refusal

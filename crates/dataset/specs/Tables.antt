@@ -18,7 +18,7 @@ use Rattle.importing.specs.declared.reading.NextRow.{NextRow}
 use Rattle.importing.specs.declared.reading.NextRow.TheVariants as next
 use Rattle.importing.specs.declared.reading.RefusedLine.{RefusedLine}
 use Rattle.importing.specs.declared.reading.Rest.{Rest}
-use Rattle.dataset.specs.Captures.{refused_unless, WritesInNumbers, ending_reply}
+use Rattle.dataset.specs.Captures.{refused_unless, WritesInNumbers, written_reply}
 use Rattle.dataset.specs.declared.Reply.{Reply}
 use Rattle.dataset.specs.declared.table.ExportedTable.{ExportedTable}
 use Rattle.dataset.specs.declared.table.ExportedRows.{ExportedRows}
@@ -48,10 +48,10 @@ abbrev pub rows_in_numbers : Option Rows → ExportedRows
 rows_in_numbers (Some rows) =
     record {
       refusal = 0;
-      ending = (ending_reply rows.ending).refusal;
+      ending = (written_reply rows.ending).refusal;
       length = rows.length;
       refused = rows.refused;
-      left = (ending_reply rows.ending).length;
+      left = (written_reply rows.ending).length;
     }
 rows_in_numbers None = no_rows (number_of NoSpace)
 

@@ -5,7 +5,7 @@ ghost use Rattle.captures.specs.Reading.{opened_of};
 ghost use Rattle.captures.specs.Writing.{head_call, record_call, write_call};
 ghost use Rattle.rewriting.specs.Rewriting.{rewrite_call};
 ghost use Rattle.summing.specs.Text.{text_of};
-ghost use Rattle.dataset.specs.Captures.{opened_in_numbers, version_numbered, no_record, next_numbered, written_reply, WritesHead, WritesRecord, WritesCapture, rewritten_reply, RewritesInNumbers, ending_reply, CountsNumbered, shown_as, ShowsCounts};
+ghost use Rattle.dataset.specs.Captures.{opened_in_numbers, version_numbered, no_record, next_numbered, WritesHead, WritesRecord, WritesCapture, rewritten_reply, RewritesInNumbers, CountsNumbered, ShowsCounts};
 
 use super::Reply;
 use captures::Version;
@@ -113,23 +113,11 @@ pub fn udgornwy_next_record(rest: &[u8], version: u16, boards: u16) -> CaptureRe
     }
 }
 
-fn written_reply(written: Result<usize, Refusal>) -> Reply
-    ensures { result ≡ written_reply written }
-{
-    match written {
-        Ok(length) => Reply { refusal: 0, length },
-        Err(refusal) => Reply {
-            refusal: u16::from(refusal.number()),
-            length: 0,
-        },
-    }
-}
-
 // Writes the head of a capture into the first bytes of `buffer`, as `recording::write_head`.
 pub fn udgornwy_write_head(buffer: &mut [u8], ids: &[u8]) -> Reply
     ensures { WritesHead (head_call buffer.old ids.now) result buffer.new }
 {
-    written_reply(recording::write_head(buffer, ids))
+    Reply::from(recording::write_head(buffer, ids))
 }
 
 // Writes a record of a capture of so many boards into the first bytes of `buffer`, as `recording::write_record`.
@@ -143,7 +131,7 @@ pub fn udgornwy_write_record(
 ) -> Reply
     ensures { WritesRecord (record_call buffer.old boards (record_of index direction counter packet.now)) result buffer.new }
 {
-    written_reply(recording::write_record(buffer, boards, index, direction, counter, packet))
+    Reply::from(recording::write_record(buffer, boards, index, direction, counter, packet))
 }
 
 // Writes a capture into the first bytes of `buffer`, as `recording::write`.
@@ -158,22 +146,24 @@ pub fn udgornwy_write_capture(
 ) -> Reply
     ensures { WritesCapture (write_call buffer.old ids.now indexes.now directions.now counters.now lengths.now packets.now) result buffer.new }
 {
-    written_reply(recording::write(buffer, ids, indexes, directions, counters, lengths, packets))
+    Reply::from(recording::write(buffer, ids, indexes, directions, counters, lengths, packets))
 }
 
-fn rewritten_reply(rewritten: Rewritten) -> Reply
-    ensures { result ≡ rewritten_reply rewritten }
-{
-    match rewritten {
-        Rewritten::Whole(length) => Reply { refusal: 0, length },
-        Rewritten::Part(length) => Reply {
-            refusal: u16::from(Refusal::WrongRecord.number()),
-            length,
-        },
-        Rewritten::Refused(refusal) => Reply {
-            refusal: u16::from(refusal.number()),
-            length: 0,
-        },
+impl From<Rewritten> for Reply {
+    ghost from_gives = { λ answer reply. reply ≡ rewritten_reply answer };
+
+    fn from(answer: Rewritten) -> Reply {
+        match answer {
+            Rewritten::Whole(length) => Reply { refusal: 0, length },
+            Rewritten::Part(length) => Reply {
+                refusal: u16::from(Refusal::WrongRecord.number()),
+                length,
+            },
+            Rewritten::Refused(refusal) => Reply {
+                refusal: u16::from(refusal.number()),
+                length: 0,
+            },
+        }
     }
 }
 
@@ -182,20 +172,7 @@ fn rewritten_reply(rewritten: Rewritten) -> Reply
 pub fn udgornwy_rewrite_capture(buffer: &mut [u8], capture: &[u8]) -> Reply
     ensures { RewritesInNumbers (rewrite_call buffer.old capture.now) result buffer.new }
 {
-    rewritten_reply(rewriting::rewrite(buffer, capture))
-}
-
-// How the records of a window end: at a field outside its range, or with so many bytes that are left.
-pub(crate) fn ending_reply(ending: Result<usize, Refusal>) -> Reply
-    ensures { result ≡ ending_reply ending }
-{
-    match ending {
-        Ok(length) => Reply { refusal: 0, length },
-        Err(refusal) => Reply {
-            refusal: u16::from(refusal.number()),
-            length: 0,
-        },
-    }
+    Reply::from(rewriting::rewrite(buffer, capture))
 }
 
 // Counts the records that stand in a window from `start` to `end`, as `counts::window::count_window`. Refusal 51: no version has this number; 53: a
@@ -216,19 +193,13 @@ pub fn udgornwy_count_window(
             length: 0,
         };
     };
-    ending_reply(counts::window::count_window(counts, window, start, end, version, boards))
+    Reply::from(counts::window::count_window(counts, window, start, end, version, boards))
 }
 
-// Refusal 1: the text does not fit.
-fn shown(listed: Option<usize>) -> Result<usize, Refusal>
-    ensures { result ≡ shown_as listed }
-{
-    listed.ok_or(Refusal::ShortBuffer)
-}
-
-// Writes counts, and the line of a refusal where its number is not 0, into the first bytes of `text`, as `summing::write`.
+// Writes counts, and the line of a refusal where its number is not 0, into the first bytes of `text`, as `summing::write`. Refusal 1: they
+// do not fit.
 pub fn udgornwy_show_counts(text: &mut [u8], counts: &[u64], refusal: u8) -> Reply
     ensures { ShowsCounts (text_of counts.now refusal) text.old result text.new }
 {
-    written_reply(shown(summing::write(text, counts, refusal)))
+    Reply::from(summing::write(text, counts, refusal).ok_or(Refusal::ShortBuffer))
 }

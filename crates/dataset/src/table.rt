@@ -1,8 +1,7 @@
 // Tables written of captures and read, with answers in numbers.
-ghost use Rattle.std.specs.Prelude.{◌≡◌, cond};
+ghost use Rattle.std.specs.Prelude.{◌≡◌};
 ghost use Rattle.importing.specs.Reading.{opened_of, next_row};
 ghost use Rattle.refusals.specs.Refusals.{number_of};
-ghost use Rattle.dataset.specs.Reply.{reply_with};
 ghost use Rattle.dataset.specs.Captures.{version_numbered};
 ghost use Rattle.dataset.specs.Tables.{WritesTableHeader, ExportsInNumbers, no_rows, ExportsNumbered, opened_table, no_row, row_in_numbers, ReadsHexInNumbers};
 
@@ -10,25 +9,14 @@ use super::{Reply, capture};
 use importing::reading::NextRow;
 use refusals::{Refusal, number_or_zero};
 
-// Bytes that were put, or this refusal.
-fn put_reply(done: bool, length: usize, refusal: Refusal) -> Reply
-    ensures { result ≡ cond done (reply_with 0 length) (reply_with (number_of refusal) 0) }
-{
-    if done {
-        return Reply { refusal: 0, length };
-    }
-    Reply {
-        refusal: u16::from(refusal.number()),
-        length: 0,
-    }
-}
-
 // Puts the header of a table into the first bytes of `buffer`. Refusal 54: it does not fit.
 pub fn udgornwy_table_header(buffer: &mut [u8]) -> Reply
     ensures { WritesTableHeader buffer.old result buffer.new }
 {
-    let done = octets::overwrite(buffer, 0, &tables::header());
-    put_reply(done, tables::HEADER_SIZE, Refusal::NoSpace)
+    if !octets::overwrite(buffer, 0, &tables::header()) {
+        return Reply::from(Err(Refusal::NoSpace));
+    }
+    Reply::from(Ok(tables::HEADER_SIZE))
 }
 
 // Refusal 0: the table's length, how many responses are refused, and the number of the capture's refusal, 0 for none. Refusal 54: the
@@ -109,7 +97,7 @@ pub fn udgornwy_export_window(
     let Some(rows) = exported else {
         return no_rows(Refusal::NoSpace);
     };
-    let ended = capture::ending_reply(rows.ending);
+    let ended = Reply::from(rows.ending);
     ExportedRows {
         refusal: 0,
         ending: ended.refusal,
@@ -216,9 +204,12 @@ pub fn udgornwy_next_row(text: &[u8], line: u64) -> TableRow
 
 // Puts the bytes of pairs of uppercase hexadecimal digits into the first bytes of `bytes`, as `importing::hex::read_hex`. Refusal 63: other
 // digits, or no room for the bytes.
+#[tactic(auto, using(importing::proofs::HexDigits::bytes_size))]
 pub fn udgornwy_read_hex(bytes: &mut [u8], digits: &[u8]) -> Reply
     ensures { ReadsHexInNumbers bytes.old digits.now result bytes.new }
 {
-    let done = importing::hex::read_hex(bytes, digits);
-    put_reply(done, digits.len() / 2, Refusal::BadField)
+    if !importing::hex::read_hex(bytes, digits) {
+        return Reply::from(Err(Refusal::BadField));
+    }
+    Reply::from(Ok(digits.len() / 2))
 }
