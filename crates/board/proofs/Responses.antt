@@ -4,8 +4,8 @@ use native.Mathlib.Nat.{zero-add}
 use native.Mathlib.Omega.{arith}
 use mathlib.Core.Bool.{Bool, true, false, cond, not, ◌&&◌, ◌||◌}
 use mathlib.Core.List.{List, [], ◌∷◌, ◌++◌}
-use mathlib.Core.Option.{Option as Maybe, none, some, or_else, get_or}
-use Rattle.std.specs.Prelude.{Option, None, Some}
+use mathlib.Core.Option.{Option, none, some, or_else, get_or}
+use Rattle.std.specs.Prelude.{Option as OptionInCode, None, Some}
 use mathlib.Core.Path.{◌≡◌, refl, sym, ap, ◌∙◌}
 use borrow.Author.Tests.{leb-false, ltb-true, ltb-false, eqb-true, le-leb, lt-leb, lt-ltb, le-ltb, eq-eqb, ne_eqb, not-false}
 use lib.Dec.{leb, ltb, eqb}
@@ -151,7 +151,7 @@ writing size block next r buffer =
     cond (eqb size 0) (outcome_of next Silence buffer) (cond (writable (sent r block) buffer) (sending next r block buffer) (refused_with LongResponse r buffer))
 
 -- and what it has after the commands, where their reports have room
-abbrev ran_for : Bool → List Report → Parameters → Option RunResult
+abbrev ran_for : Bool → List Report → Parameters → OptionInCode RunResult
 ran_for fit reports next = cond fit (Some (run_result next (extended blank reports))) None
 
 taken_blank : (reports : List Report) → every encodable_report reports ≡ true → taken blank reports ≡ leb (length (encode_reports 0 reports)) 232
@@ -160,7 +160,7 @@ taken_blank reports encodable = λ i. encodable i && leb (zero-add (length (enco
 written_block : (bytes : List ℕ) → take (0 + length bytes) (overwrite (replicate 232 0) 0 bytes) ≡ bytes
 written_block bytes = take_at bytes (drop (0 + length bytes) (replicate 232 0)) (0 + length bytes) (sym (zero-add (length bytes)))
 
-some_commands : (o : Maybe (List Command)) → not (is_some o) ≡ false → (cs : List Command) × (o ≡ some cs)
+some_commands : (o : Option (List Command)) → not (is_some o) ≡ false → (cs : List Command) × (o ≡ some cs)
 some_commands none h = absurd cc
 some_commands (some cs) h = (cs, refl)
 
@@ -235,7 +235,7 @@ module _ (r : Request) (buffer : List ℕ) (legal : sound r.board ≡ true) (sho
         let said : List Report = run_reports_in scope r.board.parameters cs in
         let encodable : every encodable_report said ≡ true =
         encodable_reports scope cs r.board.parameters parameters_fit (low_bytes r.frame.function r.frame.block cs e) in
-        ap (λ (o : Maybe (List Command)). responded_with (run_from scope r.board.parameters blank o) r buffer) e
+        ap (λ (o : Option (List Command)). responded_with (run_from scope r.board.parameters blank o) r buffer) e
         ∙ ap (λ (fit : Bool). responded_with (ran_for fit said (run r.board.parameters cs)) r buffer) (taken_blank said encodable)
         ∙ run_by said (run r.board.parameters cs) (leb (length (encode_reports 0 said)) 232) refl
         ∙ sym (defined said (run r.board.parameters cs) reports next)
@@ -265,7 +265,7 @@ module _ (r : Request) (buffer : List ℕ) (legal : sound r.board ≡ true) (sho
         run_responds All cs e (reports_by d e ∙ sym (all_reports cs r.board.parameters)) (next_by d e)
 
     by_checks :
-        (refusal : Maybe Refusal) → first_refusal request_checks r ≡ refusal
+        (refusal : Option Refusal) → first_refusal request_checks r ≡ refusal
         → answered_as (judged_by refusal (scope_of (is_discovery r))) r buffer ≡ outcome_by (or_else refusal (cond (long_response r) (some LongResponse) none)) r buffer
     unfolding request_refusals or_else
     by_checks (some refusal) e = refl
@@ -279,4 +279,4 @@ pub answered_outcome :
 unfolding request_refusals first_refusal
 answered_outcome r buffer legal short room =
     by_checks r buffer legal short room (sound_parts r.board legal).sized (first_refusal request_checks r) refl
-    ∙ ap (λ (refusal : Maybe Refusal). outcome_by refusal r buffer) (sym (first_of_joined r request_checks (rule LongResponse long_response ∷ [])))
+    ∙ ap (λ (refusal : Option Refusal). outcome_by refusal r buffer) (sym (first_of_joined r request_checks (rule LongResponse long_response ∷ [])))

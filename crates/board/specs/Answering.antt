@@ -1,6 +1,6 @@
 -- How the code goes through a call: the scope of its checks, and what it makes of a request.
-use Rattle.std.specs.Prelude.{ℕ, Bool, true, false, cond, List, ◌≡◌, eqb, length, take, Option, None, Some, Result, Ok, Err}
-use Rattle.std.proofs.Math.Option.{Option as Maybe, none, some}
+use Rattle.std.specs.Prelude.{ℕ, Bool, true, false, cond, List, ◌≡◌, eqb, length, take, Option as OptionInCode, None, Some, Result, Ok, Err}
+use Rattle.std.proofs.Math.Option.{Option, none, some}
 use Rattle.octets.specs.Octets.{overwrite}
 use Rattle.framing.specs.Frame.{Frame, frame, packet_of}
 use Rattle.framing.specs.Packet.{writable}
@@ -35,8 +35,8 @@ refused_with refusal r buffer = outcome_of r.board (Refused refusal) buffer
 abbrev pub response_of : RunResult → Request → Frame
 response_of ran r = frame r.board.id r.frame.password 0x06 (take ran.draft.length ran.draft.bytes)
 
--- where there are none to run, or their reports have no room, 12
-abbrev pub responded_with : Option RunResult → Request → List ℕ → Outcome
+-- 12, where the commands have not run, or their reports have no room
+abbrev pub responded_with : OptionInCode RunResult → Request → List ℕ → Outcome
 responded_with None r buffer = refused_with LongResponse r buffer
 responded_with (Some ran) r buffer =
     cond (eqb ran.draft.length 0) (outcome_of (with_parameters r.board ran.parameters) Silence buffer)
@@ -56,7 +56,7 @@ abbrev pub request_checks : List (Rule Request)
 request_checks = take 5 request_refusals
 
 -- what the checks make of a request: its refusal, or which parameters it may have reported
-abbrev pub judged_by : Maybe Refusal → Scope → Result Scope Refusal
+abbrev pub judged_by : Option Refusal → Scope → Result Scope Refusal
 judged_by (some refusal) scope = Err refusal
 judged_by none scope = Ok scope
 

@@ -128,11 +128,12 @@ records_as version (some refusal) capture = []
 abbrev pub records_in : List ℕ → List Record
 records_in capture = records_as (version_of capture) (head_refusal capture) capture
 
--- the answer of `open`: version, board count and where IDs and records stand, or the refusal
+-- version, board count and where IDs and records stand
 abbrev pub head_as : Version → List ℕ → Head
 head_as version capture =
     record { version = version; boards = board_count version capture; ids = ids_at version; records = records_at version capture }
 
+-- the answer of `open`: the head, or the refusal
 abbrev pub opened_as : Version → Option Refusal → List ℕ → Result Head Refusal
 opened_as version none capture = Ok (head_as version capture)
 opened_as version (some refusal) capture = Err refusal

@@ -4,8 +4,8 @@ use native.Mathlib.Nat.{add-zero}
 use native.Mathlib.Omega.{arith}
 use mathlib.Core.Bool.{Bool, true, false, cond}
 use mathlib.Core.List.{List, [], ◌∷◌, ◌++◌, append-nil}
-use mathlib.Core.Option.{Option as Maybe, none, some, map}
-use Rattle.std.specs.Prelude.{Option, None, Some, is_some, unwrap_or, Result, is_ok}
+use mathlib.Core.Option.{Option, none, some, map}
+use Rattle.std.specs.Prelude.{Option as OptionInCode, None, Some, is_some, unwrap_or, Result, is_ok}
 use Rattle.encoding.specs.declared.Unwritten.{Unwritten}
 use mathlib.Core.Path.{◌≡◌, refl, sym, ap, ◌∙◌}
 use borrow.Author.Tests.{le-leb, leb-true}
@@ -72,7 +72,7 @@ module _
         by false = refl
 
     kept : is_ok answer ≡ true → after ≡ extended draft said
-    kept h = adds.left ∙ ap (λ (made : Option Draft). unwrap_or made draft) after_draft
+    kept h = adds.left ∙ ap (λ (made : OptionInCode Draft). unwrap_or made draft) after_draft
         ∙ ap (λ (yes : Bool). unwrap_or (cond yes (Some (extended draft said)) None) draft) (sym all_taken ∙ h)
 
     pub settled_again : is_ok answer ≡ true → Settled after
@@ -83,7 +83,7 @@ module _
         record { whole = rw (kept h) (whole ∙ settled.whole); inside = rw (kept h) (omega (arith, whole)) }
 
     -- the rest from here gives what the whole gives
-    next_page : (rest : Maybe (List Command)) → taken draft said ≡ true
+    next_page : (rest : Option (List Command)) → taken draft said ≡ true
         → run_from scope p draft (map (λ (cs : List Command). c ∷ cs) rest) ≡ run_from scope (after_command p c) (extended draft said) rest
     unfolding said run_reports_in run
     next_page none h = refl
@@ -93,12 +93,12 @@ module _
           extended_join draft said (run_reports_in scope (after_command p c) cs) h,
         )
 
-    pub turn_left : (rest : Maybe (List Command)) → is_ok answer ≡ true
+    pub turn_left : (rest : Option (List Command)) → is_ok answer ≡ true
         → run_from scope p draft (map (λ (cs : List Command). c ∷ cs) rest) ≡ run_from scope held after rest
     turn_left rest h = next_page rest (sym all_taken ∙ h) ∙ sym (λ i. run_from scope (changed i) (kept h i) rest)
 
     -- reports without room stop it
-    pub turn_over : (rest : Maybe (List Command)) → is_ok answer ≡ false → run_from scope p draft (map (λ (cs : List Command). c ∷ cs) rest) ≡ None
+    pub turn_over : (rest : Option (List Command)) → is_ok answer ≡ false → run_from scope p draft (map (λ (cs : List Command). c ∷ cs) rest) ≡ None
     unfolding said run_reports_in run
     turn_over none h = refl
     turn_over (some cs) h = rw (over_join draft said (run_reports_in scope (after_command p c) cs) (sym all_taken ∙ h))

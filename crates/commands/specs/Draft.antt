@@ -1,6 +1,6 @@
 -- The data block of a response while the code writes it.
-use Rattle.std.specs.Prelude.{ℕ, ◌+◌, Bool, true, cond, ◌&&◌, List, [], ◌∷◌, ◌++◌, ◌≡◌, length, replicate, Option, None, Some, is_some, unwrap_or, Result, is_ok, ⊤}
-use Rattle.std.proofs.Math.Option.{Option as Maybe, none, some}
+use Rattle.std.specs.Prelude.{ℕ, ◌+◌, Bool, true, cond, ◌&&◌, List, [], ◌∷◌, ◌++◌, ◌≡◌, length, replicate, Option as OptionInCode, None, Some, is_some, unwrap_or, Result, is_ok, ⊤}
+use Rattle.std.proofs.Math.Option.{Option, none, some}
 use Rattle.octets.specs.Octets.{overwrite, fits}
 use Rattle.block.specs.Command.{Command, command_number, Report}
 use Rattle.block.specs.Encoding.{encode_reports, last_page, encodable_report, every}
@@ -29,7 +29,7 @@ extended draft reports =
     (last_page draft.page reports)
 
 -- the draft with reports, where they are taken; no reports leave a draft as it is
-abbrev pub drafted : Draft → List Report → Option Draft
+abbrev pub drafted : Draft → List Report → OptionInCode Draft
 drafted draft [] = Some draft
 drafted draft (first ∷ rest) = cond (taken draft (first ∷ rest)) (Some (extended draft (first ∷ rest))) None
 
@@ -59,11 +59,11 @@ abbrev pub run_result : Parameters → Draft → RunResult
 run_result parameters draft = record { parameters = parameters; draft = draft }
 
 -- commands after what is written, where there are some to run and their reports are taken
-abbrev pub run_from : Scope → Parameters → Draft → Maybe (List Command) → Option RunResult
+abbrev pub run_from : Scope → Parameters → Draft → Option (List Command) → OptionInCode RunResult
 run_from scope parameters draft none = None
 run_from scope parameters draft (some cs) =
     cond (taken draft (run_reports_in scope parameters cs)) (Some (run_result (run parameters cs) (extended draft (run_reports_in scope parameters cs)))) None
 
 -- all commands of a data block
-abbrev pub run_block : Scope → Parameters → ℕ → List ℕ → Option RunResult
+abbrev pub run_block : Scope → Parameters → ℕ → List ℕ → OptionInCode RunResult
 run_block scope parameters function block = run_from scope parameters blank (commands function block)

@@ -25,8 +25,8 @@ fn count_one(counts: &mut [u64], at: usize)
     }
 }
 
-// Counts the records of these bytes of a capture of this version and of so many boards. `Ok` tells how many bytes are left, the start
-// of a record: refusal 53, where there are any and no more come. `Err` is refusal 53, at a field outside its range.
+// Counts the records of these bytes of a capture of this version and of so many boards. `Ok` tells how many bytes are left, the start of a
+// record: `WrongRecord` applies where there are any and no more come. `Err` is `WrongRecord`, at a field outside its range.
 #[tactic(auto, using(crate::proofs::Counted::ended, crate::proofs::Counted::cut, crate::proofs::Counted::outside))]
 pub fn count(
     counts: &mut [u64],

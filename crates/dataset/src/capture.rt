@@ -188,10 +188,7 @@ pub fn udgornwy_count_window(
     ensures { CountsNumbered (version_numbered version) boards start end window.old counts.old result counts.new window.new }
 {
     let Some(version) = version_numbered(version) else {
-        return Reply {
-            refusal: u16::from(Refusal::UnknownVersion.number()),
-            length: 0,
-        };
+        return Reply::from(Err(Refusal::UnknownVersion));
     };
     Reply::from(counts::window::count_window(counts, window, start, end, version, boards))
 }

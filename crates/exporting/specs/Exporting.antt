@@ -4,9 +4,7 @@ use Rattle.octets.specs.Octets.{overwrite}
 use Rattle.captures.specs.Reading.{Reading, read, records_of}
 use Rattle.captures.specs.Writing.{too_short}
 use Rattle.captures.specs.declared.Version.{Version}
-use Rattle.refusals.specs.Refusals.{number_of}
 use Rattle.refusals.specs.declared.Refusal.{Refusal}
-use Rattle.refusals.specs.declared.Refusal.TheVariants.{NoSpace}
 use Rattle.counts.specs.Counting.{count_limit, more, end_of, left_of, refusal_at_end, window_part}
 use Rattle.tables.specs.Rows.{header_line}
 use Rattle.tables.specs.Exporting.{refused_count, export_of, refused_in, capture_told}
@@ -33,11 +31,11 @@ pub record PutsRecords (ids : List ℕ) (reading : Reading) (text : List ℕ) (a
   pub ended : answer.ending ≡ end_of reading
   pub held : after ≡ overwrite text at (records_lines ids (records_of reading))
 
--- a table in the first bytes of a buffer, how many responses are refused, and the refusal of the capture; none where the buffer is too
--- short for the whole table
+-- a table of this length, how many responses are refused, and the refusal of the capture
 abbrev pub exported_with : ℕ → ℕ → Option Refusal → Exported
 exported_with length refused capture = record { length = length; refused = refused; capture = capture }
 
+-- a table in the first bytes of a buffer; none where the buffer is too short for the whole table
 abbrev pub exported_as : List ℕ → List ℕ → ℕ → Option Refusal → Option Exported
 exported_as buffer table refused capture = cond (too_short buffer table) None (Some (exported_with (length table) refused capture))
 
@@ -49,11 +47,6 @@ pub record ExportsTable (table : List ℕ) (refused : ℕ) (capture : Option Ref
 abbrev pub ExportsRecords : List ℕ → Reading → List ℕ → Option Exported → List ℕ → Type 0
 ExportsRecords ids reading =
     ExportsTable (header_line ++ records_lines ids (records_of reading)) (capped (refused_count (records_of reading))) (refusal_at_end (end_of reading))
-
--- its number
-abbrev pub exported_number : Option Exported → ℕ
-exported_number (Some exported) = 0
-exported_number None = number_of NoSpace
 
 -- the contract of `export`
 abbrev pub Exports : List ℕ → List ℕ → Option Exported → List ℕ → Type 0

@@ -152,8 +152,8 @@ fn export_header(buffer: &mut [u8], refusal: Refusal) -> Option<Exported>
     })
 }
 
-// Exports a capture into the first bytes of `buffer`; the rest stays. None where the table has no room there. A capture that 53 refuses is
-// exported up to there.
+// Exports a capture into the first bytes of `buffer`; the rest stays. None where the table has no room there. A capture that
+// `WrongRecord` refuses is exported up to there.
 pub fn export(buffer: &mut [u8], capture: &[u8]) -> Option<Exported>
     ensures { Exports buffer.old capture.now result buffer.new }
 {

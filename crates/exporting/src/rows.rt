@@ -35,8 +35,7 @@ fn next_row(left: &[u8], page: u8) -> Option<NextRow>
     ensures { result ≡ next_row (next_report page left.now) }
 {
     match reports::next_report(left, page) {
-        NextReport::End => None,
-        NextReport::Malformed => None,
+        NextReport::End | NextReport::Malformed => None,
         NextReport::Held {
             page: next_page,
             low,

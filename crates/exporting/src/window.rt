@@ -41,11 +41,10 @@ pub fn export_window(
         boards,
     };
     let put = source.put(text, 0, refused);
-    let ending = put.ending;
-    counts::window::keep(window, end, ending);
+    counts::window::keep(window, end, put.ending);
     Some(Rows {
         length: put.end,
         refused: put.refused,
-        ending,
+        ending: put.ending,
     })
 }

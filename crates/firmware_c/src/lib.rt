@@ -9,9 +9,9 @@ ghost use Rattle.framing.specs.Packet.{parsed_of};
 ghost use Rattle.model.specs.Measurement.{measure_call};
 ghost use Rattle.model.specs.Record.{set_up};
 ghost use Rattle.model.specs.Step.{call};
+ghost use Rattle.refusals.specs.Refusals.{number_in};
 ghost use Rattle.tool.specs.Listing.{listing};
 ghost use Rattle.tool.specs.Request.{write_call};
-ghost use Rattle.refusals.specs.Refusals.{number_in};
 ghost use Rattle.tool.specs.Response.{response_of, read_call};
 
 use firmware::Reply;

@@ -1,18 +1,12 @@
 -- Laws of hexadecimal digits.
 use Prim.Native.Nat.{ℕ, zero, suc, ◌+◌, ◌*◌, ◌/◌, ◌<◌}
-use native.Mathlib.Numerals.{add-one}
 use native.Mathlib.Omega.{arith}
-use mathlib.Core.Bool.{true, ◌&&◌}
+use mathlib.Core.Bool.{true}
 use mathlib.Core.List.{List, [], ◌∷◌}
 use mathlib.Core.Path.{◌≡◌, refl, ◌∙◌}
-use lib.ListN.{length, drop, get_or}
-use lib.Seq.{drop-cons}
+use lib.ListN.{length, get_or}
 use Rattle.octets.proofs.Booleans.{both_true}
 use Rattle.tables.specs.Importing.{is_hex, hex_value, all_hex, bytes_in}
-
-pub hex_step : (digits : List ℕ) (i : ℕ) → i < length digits → all_hex (drop i digits) ≡ (is_hex (get_or digits i 0) && all_hex (drop (i + 1) digits))
-unfolding all_hex
-hex_step digits i h = rw (drop-cons digits i 0, add-one)
 
 pub hex_at : (digits : List ℕ) (i : ℕ) → all_hex digits ≡ true → i < length digits → is_hex (get_or digits i 0) ≡ true
 unfolding all_hex

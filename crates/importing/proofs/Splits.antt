@@ -8,7 +8,7 @@ use mathlib.Core.Option.{Option, none, some, map}
 use mathlib.Core.Path.{◌≡◌, refl, sym, ap, ◌∙◌}
 use borrow.Author.Tests.{eqb-true}
 use lib.Dec.{eqb}
-use lib.ListN.{length, take, drop, get_or, length-drop}
+use lib.ListN.{length, take, drop, length-drop}
 use Rattle.tables.specs.Fields.{quote, comma, before, opening, inside, closed}
 use Rattle.importing.specs.Splitting.{field_size, size_behind, first_field, after_field, first_fields, end_at, field_end, counted}
 use Rattle.importing.specs.declared.fields.FieldEnd.{FieldEnd}
@@ -95,19 +95,10 @@ fields_step [] = refl
 fields_step (c ∷ s) = opening_by (eqb c quote) s
 
 -- what ends a field, by how much is left from its last quote on
-pub no_end : (l : List ℕ) → length l ≡ 0 → end_at l ≡ ends.Wrong
-no_end [] h = refl
-no_end (q ∷ s) h = absurd (omega arith)
-
 pub line_end : (l : List ℕ) → length l ≡ 1 → end_at l ≡ ends.Line
 line_end [] h = absurd (omega arith)
 line_end (q ∷ []) h = refl
 line_end (q ∷ c ∷ s) h = absurd (omega arith)
-
-pub more_end : (l : List ℕ) → (length l ≡ 0 → ⊥) → (length l ≡ 1 → ⊥) → end_at l ≡ cond (eqb (get_or l 1 0) comma) ends.Comma ends.Wrong
-more_end [] any more = absurd (any refl)
-more_end (q ∷ []) any more = absurd (more refl)
-more_end (q ∷ c ∷ s) any more = refl
 
 -- a line with a field is not empty
 some_line : (line : List ℕ) → (field_end line ≡ ends.Wrong → ⊥) → 0 < length line

@@ -1,7 +1,6 @@
 -- Reading a table line by line: what the code answers.
 use Rattle.std.specs.Prelude.{ℕ, ◌+◌, ◌-◌, true, cond, Result, Ok, Err, List, [], ◌∷◌, ltb, eqb, length, drop, get_or}
 use Rattle.std.proofs.Math.Option.{Option, none, some}
-use Rattle.refusals.specs.Refusals.{number_of}
 use Rattle.refusals.specs.declared.Refusal.{Refusal}
 use Rattle.refusals.specs.declared.Refusal.TheVariants.{TableHeader}
 use Rattle.framing.specs.Refusal.{first_refusal}
@@ -69,16 +68,6 @@ next_as (some refusal) text line = refused_as refusal line
 
 abbrev pub next_row : List ℕ → ℕ → NextRow
 next_row text line = cond (eqb (length text) 0) next.End (next_as (first_refusal line_refusals (first_line text)) text line)
-
--- the numbers of their refusals, 0 for none
-abbrev pub opened_number : Result Rest RefusedLine → ℕ
-opened_number (Ok table) = 0
-opened_number (Err r) = number_of r.refusal
-
-abbrev pub next_number : NextRow → ℕ
-next_number (next.Row board counter page low value value_end rest line) = 0
-next_number next.End = 0
-next_number (next.Refused r) = number_of r.refusal
 
 -- what is read from an answer on, given how the rest is read
 abbrev pub import_after : (ℕ → List ℕ → Imported) → List ℕ → NextRow → Imported

@@ -1,5 +1,5 @@
 // The forms of a row's fields.
-ghost use Rattle.std.specs.Prelude.{◌-◌, ◌≤◌, ◌||◌, ◌≡◌, ltb, eqb, length, get_or};
+ghost use Rattle.std.specs.Prelude.{◌||◌, ◌≡◌, ltb, eqb, length, get_or};
 ghost use Rattle.tables.specs.Importing.{is_hex_field, is_board, is_direction, is_number, is_value};
 ghost use Rattle.importing.specs.Splitting.{first_fields};
 ghost use Rattle.importing.specs.Forms.{digits_read, counter_of, row_fields_of};

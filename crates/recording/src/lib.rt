@@ -1,10 +1,10 @@
 // Writes a capture of version 2, or its head and its records one at a time, into a lent buffer, as `captures` defines their bytes.
 #![tactic(auto)]
 
-ghost use Rattle.std.specs.Prelude.{true, not, ◌++◌, ◌≡◌, ◌+◌, ◌*◌, ◌<◌, ◌≤◌, ltb, length, get_or};
+ghost use Rattle.std.specs.Prelude.{true, not, ◌++◌, ◌≡◌, ◌+◌, ◌<◌, ◌≤◌, ltb, length, get_or};
 ghost use Rattle.octets.specs.Octets.{overwrite, Overwrites};
 ghost use Rattle.framing.specs.Refusal.{checked};
-ghost use Rattle.captures.specs.Form.{mark, version_number, newest, index_size, ids_at, packet_at, board_limit, record_of, record_bytes, records_bytes, head_bytes, capture_bytes, boards_of};
+ghost use Rattle.captures.specs.Form.{mark, version_number, newest, index_size, record_of, record_bytes, records_bytes, head_bytes, capture_bytes};
 ghost use Rattle.captures.specs.Numbers.{bytes_of};
 ghost use Rattle.recording.specs.Given.{record_given, list_of, describes, StandSideBySide};
 ghost use Rattle.captures.specs.Writing.{wrong_ids, head_call, WritesHead, record_call, WritesRecord, record_in_range, every_in_range, write_call, WritesCapture};
@@ -268,6 +268,5 @@ pub fn write(
     };
     put_head(buffer, ids);
     let start = captures::IDS_AT + ids.len();
-    let end = records.put(buffer, start);
-    Ok(end)
+    Ok(records.put(buffer, start))
 }

@@ -51,6 +51,6 @@ number_or_zero (Some refusal) = number_of refusal
 abbrev pub NumbersDistinct : Type 0
 NumbersDistinct = (one other : Refusal) → number_of one ≡ number_of other → one ≡ other
 
--- none has the number of what is no refusal
+-- no refusal has the number 0
 abbrev pub NumbersAboveZero : Type 0
 NumbersAboveZero = (refusal : Refusal) → 0 < number_of refusal

@@ -6,7 +6,7 @@ ghost use Rattle.refusals.specs.Refusals.{number_in, number_of, number_or_zero};
 
 #[derive(Clone, Copy, Debug, PartialEq, Eq)]
 pub enum Refusal {
-    // Of a packet: the buffer for a response, then the bytes of the packet.
+    // Of a buffer that is lent for a packet or a text, then of the bytes of a packet.
     ShortBuffer = 1,
     WrongLength = 2,
     WrongMark = 3,
@@ -20,7 +20,7 @@ pub enum Refusal {
     MalformedBlock = 10,
     DiscoveryWrites = 11,
     LongResponse = 12,
-    // Of a set-up.
+    // Of a set-up. The tool refuses a password by the same one.
     BadId = 20,
     BadPassword = 21,
     BadMode = 22,
@@ -28,12 +28,12 @@ pub enum Refusal {
     // Of a measurement.
     NotMeasured = 30,
     MeasuredLength = 31,
-    // Of a request that the tool writes.
+    // Of what the tool is given: the ID that it expects, and the commands of a request.
     ExpectedId = 40,
     CommandList = 41,
     NotEncodable = 42,
     LongRequest = 43,
-    // Of a capture.
+    // Of a capture, and of the room for one or for a table.
     CaptureMark = 50,
     UnknownVersion = 51,
     WrongBoards = 52,

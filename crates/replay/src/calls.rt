@@ -2,12 +2,9 @@
 use crate::fields::Fault;
 use crate::{board_calls, capture_calls, output, record_calls, table_calls, tool_calls};
 use model::Board;
-use std::alloc::Global;
+use std::alloc::{AllocError, Global};
 use std::io::Write;
-use std::{io, str};
-
-// The most characters of a line.
-const LONGEST: usize = 65536;
+use std::str;
 
 // Empty lines and comments are passed over.
 fn is_passed_over(line: &[u8]) -> bool {
@@ -73,9 +70,6 @@ fn call_line<W: Write + Drop>(
     alloc: Global,
     out: &mut W,
 ) -> Result<(), Fault> {
-    if LONGEST < line.len() {
-        return Err(Fault::BadLine);
-    }
     let Ok(text) = str::from_utf8(line) else {
         return Err(Fault::BadLine);
     };
@@ -83,20 +77,24 @@ fn call_line<W: Write + Drop>(
     call(board, &fields, alloc, out)
 }
 
-// Answers a line. One that is none of the forms changes nothing.
+// Answers a line. One that is none of the forms changes nothing. What cannot be written is passed over.
 pub(crate) fn answer<W: Write + Drop>(
     board: &mut Board,
     line: &[u8],
     alloc: Global,
     out: &mut W,
-) -> io::Result<()> {
+) -> Result<(), AllocError> {
     if is_passed_over(line) {
         return Ok(());
     }
     match call_line(board, line, alloc, out) {
         Ok(()) => {}
-        Err(Fault::BadLine) => output::put_bad(out)?,
-        Err(Fault::Io(error)) => return Err(error),
+        Err(Fault::BadLine) => {
+            let _ = output::put_bad(out);
+        }
+        Err(Fault::Unwritten(_)) => {}
+        Err(Fault::OutOfMemory(error)) => return Err(error),
     }
-    out.write_all(b"\n")
+    let _ = out.write_all(b"\n");
+    Ok(())
 }

@@ -25,8 +25,9 @@ fn put_records<W: Write>(out: &mut W, records: &[u8], head: Head) -> io::Result<
     loop {
         match captures::reading::next_record(left, head.version, head.boards) {
             NextRecord::End => return Ok(()),
-            NextRecord::Cut => return output::put_ending(out, Some(Refusal::WrongRecord)),
-            NextRecord::Wrong => return output::put_ending(out, Some(Refusal::WrongRecord)),
+            NextRecord::Cut | NextRecord::Wrong => {
+                return output::put_ending(out, Refusal::WrongRecord);
+            }
             NextRecord::Record {
                 index,
                 direction,
@@ -56,7 +57,7 @@ pub(crate) fn read<W: Write>(capture: &str, alloc: Global, out: &mut W) -> Resul
     match captures::reading::open(&capture) {
         Err(refusal) => {
             write!(out, "version {}", version_of_refused(&capture, refusal))?;
-            output::put_ending(out, Some(refusal))?;
+            output::put_ending(out, refusal)?;
         }
         Ok(head) => {
             write!(out, "version {}", captures::version_number(head.version))?;
@@ -126,18 +127,6 @@ fn read_ids(field: &str, alloc: Global) -> Result<Vec<u8>, Fault> {
     Ok(ids)
 }
 
-// The answer of a write, whose capture stands at the start of a lent buffer.
-fn put_written<W: Write>(
-    out: &mut W,
-    written: Result<usize, Refusal>,
-    buffer: &[u8],
-) -> io::Result<()> {
-    match written {
-        Ok(length) => output::put_written(out, "capture", buffer, length),
-        Err(refusal) => output::put_refusal(out, refusal, buffer),
-    }
-}
-
 // capwrite ROOM IDS I.D.C.HEX ..
 pub(crate) fn write<W: Write>(
     room: &str,
@@ -159,7 +148,7 @@ pub(crate) fn write<W: Write>(
         &list.lengths,
         &list.packets,
     );
-    put_written(out, written, &buffer)?;
+    output::put_answer(out, "capture", written, &buffer)?;
     Ok(())
 }
 
@@ -174,11 +163,11 @@ pub(crate) fn rewrite<W: Write>(
     let capture = hex::decode(capture, alloc)?;
     let mut buffer = fields::lent(alloc, room)?;
     match rewriting::rewrite(&mut buffer, &capture) {
-        Rewritten::Refused(refusal) => put_written(out, Err(refusal), &buffer)?,
-        Rewritten::Whole(length) => put_written(out, Ok(length), &buffer)?,
+        Rewritten::Refused(refusal) => output::put_answer(out, "capture", Err(refusal), &buffer)?,
+        Rewritten::Whole(length) => output::put_answer(out, "capture", Ok(length), &buffer)?,
         Rewritten::Part(length) => {
-            put_written(out, Ok(length), &buffer)?;
-            output::put_ending(out, Some(Refusal::WrongRecord))?;
+            output::put_answer(out, "capture", Ok(length), &buffer)?;
+            output::put_ending(out, Refusal::WrongRecord)?;
         }
     }
     Ok(())
@@ -191,8 +180,6 @@ pub(crate) fn summary<W: Write>(capture: &str, alloc: Global, out: &mut W) -> Re
     let Some(length) = summing::summary(&mut lines, &capture) else {
         return Ok(());
     };
-    if length <= lines.len() {
-        output::put_joined(out, &mut lines[..length])?;
-    }
+    output::put_joined(out, &mut lines, length)?;
     Ok(())
 }

@@ -3,28 +3,29 @@ use crate::{hex, output};
 use std::alloc::{AllocError, AllocFailed, Global};
 use std::io;
 
-// Why a line has no answer of its own: it is none of the forms, or the answer could not be written.
+// Why a line is not answered to its end: it is none of the forms, its answer could not be written, or memory ran out.
 #[derive(Drop)]
 pub(crate) enum Fault {
     BadLine,
-    Io(io::Error),
+    Unwritten(io::Error),
+    OutOfMemory(AllocError),
 }
 
 impl From<io::Error> for Fault {
     fn from(error: io::Error) -> Fault {
-        Fault::Io(error)
+        Fault::Unwritten(error)
     }
 }
 
 impl From<AllocError> for Fault {
     fn from(error: AllocError) -> Fault {
-        Fault::Io(io::Error::from(error))
+        Fault::OutOfMemory(error)
     }
 }
 
 impl<T: Drop> From<AllocFailed<T>> for Fault {
     fn from(error: AllocFailed<T>) -> Fault {
-        Fault::Io(io::Error::from(error))
+        Fault::OutOfMemory(AllocError::from(error))
     }
 }
 

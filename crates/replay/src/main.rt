@@ -6,6 +6,7 @@ mod calls;
 mod capture_calls;
 mod fields;
 mod hex;
+mod lines;
 mod output;
 mod record_calls;
 mod schedule_entries;
@@ -13,17 +14,13 @@ mod table_calls;
 mod tool_calls;
 
 use std::io;
-use std::io::{BufRead, BufReader, LineWriter};
+use std::io::LineWriter;
 
-// Each line is written out as soon as it is whole, so that who waits for an answer gets it.
+// Each answer is written out with its line's end, so that who waits for it gets it.
 fn main(rt: HostRuntime) -> io::Result<()> {
-    let alloc = rt.alloc();
-    let lines = BufReader::new(alloc, rt.stdin())?.split(alloc, b'\n');
-    let mut out = LineWriter::new(alloc, rt.stdout())?;
-    // A refused set-up gives the board before the first call.
-    let mut board = board::set_up(b"", b"", 0, rows::MICRA).board;
-    for line in lines {
-        calls::answer(&mut board, &line?, alloc, &mut out)?;
-    }
+    // Room for a line and its end.
+    let mut window = [0u8; lines::LONGEST + 1];
+    let mut out = LineWriter::new(rt.alloc(), rt.stdout())?;
+    lines::replay(&mut rt.stdin(), &mut window, rt.alloc(), &mut out)?;
     Ok(())
 }

@@ -15,11 +15,8 @@ pub(crate) fn put_refused<W: Write>(out: &mut W, refusal: Refusal) -> io::Result
     write!(out, "refused {}", refusal.number())
 }
 
-// The refusal of what was read up to there, if there is one.
-pub(crate) fn put_ending<W: Write>(out: &mut W, refusal: Option<Refusal>) -> io::Result<()> {
-    let Some(refusal) = refusal else {
-        return Ok(());
-    };
+// The refusal of what was read up to there.
+pub(crate) fn put_ending<W: Write>(out: &mut W, refusal: Refusal) -> io::Result<()> {
     out.write_all(b" ")?;
     put_refused(out, refusal)
 }
@@ -33,17 +30,17 @@ pub(crate) fn put_unknown<W: Write>(out: &mut W, page: u8, low: u8) -> io::Resul
     write!(out, " {page:02X}{low:02X}=unknown")
 }
 
-// The lines of a text, joined by vertical bars, or `-` for no line; its last byte, the last line's end, is left out.
-pub(crate) fn put_joined<W: Write>(out: &mut W, text: &mut [u8]) -> io::Result<()> {
-    if text.is_empty() {
+// The lines of the first `length` bytes of a text, joined by vertical bars, or `-` for no line; the last line's end is left out.
+pub(crate) fn put_joined<W: Write>(out: &mut W, text: &mut [u8], length: usize) -> io::Result<()> {
+    let Some(size) = length.checked_sub(1) else {
         return out.write_all(b"-");
-    }
-    for byte in text.iter_mut() {
+    };
+    for byte in text.iter_mut().take(size) {
         if *byte == b'\n' {
             *byte = b'|';
         }
     }
-    out.write_all(octets::first_bytes(text, text.len() - 1))
+    out.write_all(octets::first_bytes(text, size))
 }
 
 // A mark where a call changed a buffer outside the length it gave back.
@@ -73,4 +70,17 @@ pub(crate) fn put_written<W: Write>(
 ) -> io::Result<()> {
     write!(out, "{name} {}", Hex(octets::first_bytes(buffer, length)))?;
     put_dirty(out, octets::bytes_after(buffer, length))
+}
+
+// The answer of a call that writes into a lent buffer.
+pub(crate) fn put_answer<W: Write>(
+    out: &mut W,
+    name: &str,
+    answer: Result<usize, Refusal>,
+    buffer: &[u8],
+) -> io::Result<()> {
+    match answer {
+        Ok(length) => put_written(out, name, buffer, length),
+        Err(refusal) => put_refusal(out, refusal, buffer),
+    }
 }

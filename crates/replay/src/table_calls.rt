@@ -4,8 +4,8 @@ use crate::{capture_calls, fields, hex, output};
 use importing::reading::{NextRow, RefusedLine, Rest};
 use refusals::Refusal;
 use std::alloc::Global;
+use std::io;
 use std::io::Write;
-use std::{io, str};
 
 // export ROOM CAPTURE
 pub(crate) fn export<W: Write>(
@@ -31,7 +31,7 @@ pub(crate) fn export<W: Write>(
 
 // The refusal of a table at a line, behind the rows before it.
 fn put_refused_line<W: Write>(out: &mut W, at: RefusedLine) -> io::Result<()> {
-    output::put_ending(out, Some(at.refusal))?;
+    output::put_ending(out, at.refusal)?;
     write!(out, " line {}", at.line)
 }
 

@@ -45,18 +45,6 @@ fn read_commands(commands: &[&str], alloc: Global) -> Result<Commands, Fault> {
     Ok(list)
 }
 
-// The answer of a write, whose packet stands at the start of a lent buffer.
-fn put_written<W: Write>(
-    out: &mut W,
-    written: Result<usize, Refusal>,
-    buffer: &[u8],
-) -> io::Result<()> {
-    match written {
-        Ok(length) => output::put_written(out, "packet", buffer, length),
-        Err(refusal) => output::put_refusal(out, refusal, buffer),
-    }
-}
-
 // write LENGTH ID PASSWORD F:NNNN:VALUE ..
 pub(crate) fn write<W: Write>(
     length: &str,
@@ -80,7 +68,7 @@ pub(crate) fn write<W: Write>(
         &list.lengths,
         &list.values,
     );
-    put_written(out, written, &buffer)?;
+    output::put_answer(out, "packet", written, &buffer)?;
     Ok(())
 }
 
@@ -89,8 +77,7 @@ fn put_reports<W: Write>(out: &mut W, block: &[u8]) -> io::Result<()> {
     let mut page: u8 = 0;
     loop {
         match reports::next_report(left, page) {
-            NextReport::End => return Ok(()),
-            NextReport::Malformed => return Ok(()),
+            NextReport::End | NextReport::Malformed => return Ok(()),
             NextReport::Held {
                 page: next_page,
                 low,
@@ -147,8 +134,6 @@ pub(crate) fn list<W: Write>(packet: &str, alloc: Global, out: &mut W) -> Result
     let Some(length) = tool::listing::list(&mut lines, &packet) else {
         return Ok(());
     };
-    if length <= lines.len() {
-        output::put_joined(out, &mut lines[..length])?;
-    }
+    output::put_joined(out, &mut lines, length)?;
     Ok(())
 }

@@ -3,7 +3,6 @@
 
 ghost use Rattle.std.specs.Prelude.{◌≡◌, ◌+◌, ◌≤◌, length};
 ghost use Rattle.octets.specs.Octets.{overwrite};
-ghost use Rattle.captures.specs.Form.{newest, board_limit, boards_of};
 ghost use Rattle.rewriting.specs.Rewriting.{records_read, bytes_read, reading_given, fitted, rewrite_call, Rewrites};
 
 use captures::Version;

@@ -55,6 +55,7 @@ fn kind_of(number: u8) -> Kind
 pub fn kind_at(index: usize) -> Kind
     ensures { result ≡ kind_of (set_at index) }
 {
+    // Past the last row: free bytes.
     kind_of(entry_at(&columns::KIND, index, 3))
 }
 

@@ -1,4 +1,3 @@
-pub mod Lengths
 pub mod Places
 pub mod Spans
 pub mod Writing

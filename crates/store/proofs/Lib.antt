@@ -1,7 +1,6 @@
 pub mod Slots
 pub mod Members
 pub mod Degrees
-pub mod Measurements
 pub mod Starts
 pub mod Frames
 pub mod Searches

@@ -1,5 +1,5 @@
 -- What a write, a raise, a lower and a measurement make of a store, and what a command is answered with.
-use Rattle.std.specs.Prelude.{ℕ, Bool, false, cond, not, ◌&&◌, List, [], ◌∷◌, eqb, length, get_or, Option, None, Some, option_map, Result, Ok, Err}
+use Rattle.std.specs.Prelude.{ℕ, Bool, false, cond, not, ◌&&◌, List, [], ◌∷◌, eqb, length, get_or, Option, None, Some, option_map, Result, Ok, Err, ⊤}
 use Rattle.refusals.specs.declared.Refusal.{Refusal}
 use Rattle.refusals.specs.declared.Refusal.TheVariants.{NotMeasured, MeasuredLength}
 use Rattle.rows.specs.declared.Range.{Range}
@@ -62,13 +62,13 @@ abbrev pub measurable : ℕ → ℕ → Bool
 measurable unit n = known unit n && not (allows unit n 2) && not (is_identity n)
 
 -- whether a measurement is accepted, or why it is refused
-abbrev pub measurement : ℕ → ℕ → List ℕ → Result (Unit {0}) Refusal
+abbrev pub measurement : ℕ → ℕ → List ℕ → Result ⊤ Refusal
 measurement unit n value =
     cond (measurable unit n)
     (cond (eqb (length value) (size_of (row_of unit n).set)) (Ok tt) (Err MeasuredLength))
     (Err NotMeasured)
 
-abbrev pub accepted : Result (Unit {0}) Refusal → List ℕ → Option (List ℕ)
+abbrev pub accepted : Result ⊤ Refusal → List ℕ → Option (List ℕ)
 accepted (Ok done) value = Some value
 accepted (Err refusal) value = None
 
@@ -90,7 +90,7 @@ abbrev pub measured : Store → ℕ → List ℕ → Store
 measured store n value = stored store n (accepted (measurement store.unit n value) value)
 
 -- what a measurement returns: the store after it, or why it is refused
-abbrev pub answered_as : Store → Result (Unit {0}) Refusal → Result Store Refusal
+abbrev pub answered_as : Store → Result ⊤ Refusal → Result Store Refusal
 answered_as after (Ok done) = Ok after
 answered_as after (Err refusal) = Err refusal
 

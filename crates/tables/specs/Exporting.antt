@@ -3,7 +3,6 @@ use Rattle.std.specs.Prelude.{ℕ, ◌+◌, ◌*◌, Bool, cond, ◌&&◌, List,
 use Rattle.std.proofs.Math.Option.{Option, none, some, get_or}
 use Rattle.refusals.specs.declared.Refusal.{Refusal}
 use Rattle.block.specs.Command.{Report}
-use Rattle.refusals.specs.Refusals.{number_or_zero}
 use Rattle.framing.specs.Refusal.{in_code}
 use Rattle.block.specs.Reading.{is_some}
 use Rattle.captures.specs.Form.{Record}
@@ -55,6 +54,3 @@ refused_in capture = refused_count (records_in capture)
 -- the capture's refusal, and its number, 0 for none
 abbrev pub capture_told : List ℕ → OptionInCode Refusal
 capture_told capture = in_code (capture_refusal capture)
-
-abbrev pub capture_number : List ℕ → ℕ
-capture_number capture = number_or_zero (capture_told capture)

@@ -16,16 +16,16 @@ pub trait Kind {
 
     ghost wrong_block: { ℕ → List ℕ → Bool };
 
-    // Refusal 9.
+    // `NoFunction`.
     fn check_function(function: u8) -> Check
         ensures { result ≡ checked (wrong_function function) };
 
-    // Refusal 10.
+    // `MalformedBlock`.
     fn check_block(function: u8, block: &[u8]) -> Check
         ensures { result ≡ checked (wrong_block function block.now) };
 }
 
-// Refusals 9 and 10, of a packet that passed 2 to 6.
+// `NoFunction` and `MalformedBlock`, of a packet that `framing::read` takes apart.
 #[tactic(auto, using(framing::proofs::Answers::function_found, framing::proofs::Answers::block_found), unfolding(framing::specs::Refusal::first_refusal))]
 pub(crate) fn read_block<K: Kind>(packet: &[u8], places: Places) -> Result<Block, Refusal>
     requires { Stands packet.now places }
