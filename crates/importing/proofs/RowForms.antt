@@ -14,37 +14,30 @@ use Rattle.importing.specs.Splitting.{first_field, after_field, first_fields}
 use Rattle.importing.specs.declared.forms.RowFields.{RowFields}
 use Rattle.std.specs.Prelude.{Option, Some, None}
 
+-- what an answer tells that is a value where a condition holds, and none elsewhere
+given : {a : Type 0} {answer : Option a} {value : a} (holds : Bool) → answer ≡ cond holds (Some value) None → {read : a} → answer ≡ Some read → (holds ≡ true) × (read ≡ value)
+given true e h = (refl, cc)
+given false e h = ((cc), (cc))
+
+not_given : {a : Type 0} {answer : Option a} (holds : Bool) (value : a) → answer ≡ cond holds (Some value) None → answer ≡ None → holds ≡ false
+not_given true value e h = cc
+not_given false value e h = refl
+
 -- what the answer of `read_counter` tells
 module _ {answer : Option ℕ} (field : List ℕ) (told : answer ≡ counter_of field) where
-  numbered : (right : Bool) → answer ≡ cond right (Some (number_in field)) None → {number : ℕ} → answer ≡ Some number → (right ≡ true) × (number ≡ number_in field)
-  numbered true e h = (refl, cc)
-  numbered false e h = ((cc), (cc))
-
   pub counter_read : {number : ℕ} → answer ≡ Some number → (is_counter field ≡ true) × (number ≡ number_in field)
-  counter_read = numbered (is_counter field) told
-
-  misread : (right : Bool) → answer ≡ cond right (Some (number_in field)) None → answer ≡ None → right ≡ false
-  misread true e h = cc
-  misread false e h = refl
+  counter_read = given (is_counter field) told
 
   pub counter_wrong : answer ≡ None → is_counter field ≡ false
-  counter_wrong = misread (is_counter field) told
+  counter_wrong = not_given (is_counter field) (number_in field) told
 
 -- and that of `read_fields`
 module _ {answer : Option RowFields} (fields : List (List ℕ)) (told : answer ≡ row_fields_of fields) where
-  formed : (right : Bool) → answer ≡ cond right (Some (fields_read fields)) None → {read : RowFields} → answer ≡ Some read → (right ≡ true) × (read ≡ fields_read fields)
-  formed true e h = (refl, cc)
-  formed false e h = ((cc), (cc))
-
   pub in_form_read : {read : RowFields} → answer ≡ Some read → (in_form fields ≡ true) × (read ≡ fields_read fields)
-  in_form_read = formed (in_form fields) told
-
-  unformed : (right : Bool) → answer ≡ cond right (Some (fields_read fields)) None → answer ≡ None → right ≡ false
-  unformed true e h = cc
-  unformed false e h = refl
+  in_form_read = given (in_form fields) told
 
   pub fields_wrong : answer ≡ None → in_form fields ≡ false
-  fields_wrong = unformed (in_form fields) told
+  fields_wrong = not_given (in_form fields) (fields_read fields) told
 
 -- the fields of a row in form
 pub record Formed (fields : List (List ℕ)) : Type 0 where
