@@ -1,3 +1,4 @@
 pub mod Reply
 pub mod Captures
 pub mod Tables
+pub mod Refusals
