@@ -1,21 +1,18 @@
 // The calls of the board: set-up, packet, measure.
-use crate::fields::Fault;
+use crate::output::Output;
 use crate::{fields, hex, output};
 use model::{Answer, Board};
 use refusals::Refusal;
-use std::alloc::Global;
-use std::io;
-use std::io::Write;
 
-fn put_verdict<W: Write>(out: &mut W, verdict: Result<(), Refusal>) -> io::Result<()> {
+fn put_verdict(out: &mut Output<'_>, verdict: Result<(), Refusal>) {
     match verdict {
-        Ok(()) => out.write_all(b"accepted"),
-        Err(refusal) => output::put_refused(out, refusal),
+        Ok(()) => out.put(b"accepted"),
+        Err(refusal) => out.put_refused(refusal),
     }
 }
 
 // The unit type of a set-up: 2 where the field is left out.
-fn unit_type(field: Option<&str>) -> Option<u8> {
+fn unit_type(field: Option<&[u8]>) -> Option<u8> {
     match field {
         Some(field) => fields::byte(field),
         None => Some(rows::MICRA),
@@ -23,66 +20,66 @@ fn unit_type(field: Option<&str>) -> Option<u8> {
 }
 
 // setup ID PASSWORD MODE [TYPE]
-pub(crate) fn set_up<W: Write>(
+pub(crate) fn set_up(
     board: &mut Board,
-    id: &str,
-    password: &str,
-    mode: &str,
-    unit: Option<&str>,
-    alloc: Global,
-    out: &mut W,
-) -> Result<(), Fault> {
-    let id = hex::decode(id, alloc)?;
-    let password = hex::decode(password, alloc)?;
-    let mode = fields::byte(mode).ok_or(Fault::BadLine)?;
-    let unit = unit_type(unit).ok_or(Fault::BadLine)?;
-    let answered = board::set_up(&id, &password, mode, unit);
+    id: &[u8],
+    password: &[u8],
+    mode: &[u8],
+    unit: Option<&[u8]>,
+    room: &mut [u8],
+    out: &mut Output<'_>,
+) -> Option<()> {
+    let (id, rest) = hex::decode(id, room)?;
+    let (password, _) = hex::decode(password, rest)?;
+    let mode = fields::byte(mode)?;
+    let unit = unit_type(unit)?;
+    let answered = board::set_up(id, password, mode, unit);
     *board = answered.board;
-    put_verdict(out, answered.verdict)?;
-    Ok(())
+    put_verdict(out, answered.verdict);
+    Some(())
 }
 
 // measure NUMBER VALUE
-pub(crate) fn measure<W: Write>(
+pub(crate) fn measure(
     board: &mut Board,
-    number: &str,
-    value: &str,
-    alloc: Global,
-    out: &mut W,
-) -> Result<(), Fault> {
-    let number = fields::number(number).ok_or(Fault::BadLine)?;
-    let value = hex::decode(value, alloc)?;
-    let answered = board::measure(*board, number, &value);
+    number: &[u8],
+    value: &[u8],
+    room: &mut [u8],
+    out: &mut Output<'_>,
+) -> Option<()> {
+    let number = fields::number(number)?;
+    let (value, _) = hex::decode(value, room)?;
+    let answered = board::measure(*board, number, value);
     *board = answered.board;
-    put_verdict(out, answered.verdict)?;
-    Ok(())
+    put_verdict(out, answered.verdict);
+    Some(())
 }
 
 // The answer of a packet, whose response stands at the start of a lent buffer.
-fn put_answer<W: Write>(out: &mut W, answer: Answer, buffer: &[u8]) -> io::Result<()> {
+fn put_answer(out: &mut Output<'_>, answer: Answer, buffer: &[u8]) {
     match answer {
-        Answer::Refused(refusal) => output::put_refusal(out, refusal, buffer),
+        Answer::Refused(refusal) => out.put_refusal(refusal, buffer),
         Answer::Silence => {
-            out.write_all(b"silence")?;
-            output::put_dirty(out, buffer)
+            out.put(b"silence");
+            out.put_dirty(buffer);
         }
-        Answer::Response(length) => output::put_written(out, "response", buffer, length),
+        Answer::Response(length) => out.put_written(b"response ", buffer, length),
     }
 }
 
 // packet LENGTH PACKET
-pub(crate) fn packet<W: Write>(
+pub(crate) fn packet(
     board: &mut Board,
-    length: &str,
-    packet: &str,
-    alloc: Global,
-    out: &mut W,
-) -> Result<(), Fault> {
-    let length = fields::room(length, 1024).ok_or(Fault::BadLine)?;
-    let packet = hex::decode(packet, alloc)?;
-    let mut buffer = fields::lent(alloc, length)?;
-    let stepped = board::packet(*board, &packet, &mut buffer);
+    length: &[u8],
+    packet: &[u8],
+    room: &mut [u8],
+    out: &mut Output<'_>,
+) -> Option<()> {
+    let mut lent = [output::FILLER; 1024];
+    let buffer = fields::lend(length, &mut lent)?;
+    let (packet, _) = hex::decode(packet, room)?;
+    let stepped = board::packet(*board, packet, buffer);
     *board = stepped.board;
-    put_answer(out, stepped.answer, &buffer)?;
-    Ok(())
+    put_answer(out, stepped.answer, buffer);
+    Some(())
 }

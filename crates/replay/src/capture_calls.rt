@@ -1,33 +1,28 @@
 // The calls on captures: capread, capwrite, summary, rewrite.
-use crate::fields::Fault;
-use crate::hex::{Field, Hex};
+use crate::output::Output;
 use crate::{fields, hex, output};
 use captures::reading::{Head, NextRecord};
 use refusals::Refusal;
 use rewriting::Rewritten;
-use std::alloc::Global;
-use std::io;
-use std::io::Write;
+use std::fmt::Write as _;
 
-// The most bytes of a lent buffer.
-pub(crate) const LONGEST: u32 = 1048576;
+// The most bytes of a lent buffer. A call with a buffer or a text of such a size is not inlined, so that no other call has it on its stack.
+pub(crate) const LONGEST: usize = 1048576;
 
-fn put_ids<W: Write>(out: &mut W, ids: &[u8]) -> io::Result<()> {
+fn put_ids(out: &mut Output<'_>, ids: &[u8]) {
     for id in ids.chunks(framing::ID_SIZE) {
-        write!(out, " id:{}", Hex(id))?;
+        out.put(b" id:");
+        out.put_hex(id);
     }
-    Ok(())
 }
 
 // The records of a capture of this version and of so many boards, and its refusal.
-fn put_records<W: Write>(out: &mut W, records: &[u8], head: Head) -> io::Result<()> {
+fn put_records(out: &mut Output<'_>, records: &[u8], head: Head) {
     let mut left = records;
     loop {
         match captures::reading::next_record(left, head.version, head.boards) {
-            NextRecord::End => return Ok(()),
-            NextRecord::Cut | NextRecord::Wrong => {
-                return output::put_ending(out, Refusal::WrongRecord);
-            }
+            NextRecord::End => return,
+            NextRecord::Cut | NextRecord::Wrong => return out.put_ending(Refusal::WrongRecord),
             NextRecord::Record {
                 index,
                 direction,
@@ -35,8 +30,8 @@ fn put_records<W: Write>(out: &mut W, records: &[u8], head: Head) -> io::Result<
                 packet,
                 rest,
             } => {
-                let packet = Field(block::part(left, packet, rest));
-                write!(out, " rec:{index}.{direction}.{counter}.{packet}")?;
+                let _ = write!(out, " rec:{index}.{direction}.{counter}.");
+                out.put_field(block::part(left, packet, rest));
                 left = block::part(left, rest, 0);
             }
         }
@@ -52,134 +47,142 @@ fn version_of_refused(capture: &[u8], refusal: Refusal) -> u8 {
 }
 
 // capread CAPTURE
-pub(crate) fn read<W: Write>(capture: &str, alloc: Global, out: &mut W) -> Result<(), Fault> {
-    let capture = hex::decode(capture, alloc)?;
-    match captures::reading::open(&capture) {
+pub(crate) fn read(capture: &[u8], room: &mut [u8], out: &mut Output<'_>) -> Option<()> {
+    let (capture, _) = hex::decode(capture, room)?;
+    match captures::reading::open(capture) {
         Err(refusal) => {
-            write!(out, "version {}", version_of_refused(&capture, refusal))?;
-            output::put_ending(out, refusal)?;
+            let _ = write!(out, "version {}", version_of_refused(capture, refusal));
+            out.put_ending(refusal);
         }
         Ok(head) => {
-            write!(out, "version {}", captures::version_number(head.version))?;
+            let _ = write!(out, "version {}", captures::version_number(head.version));
             let size = framing::ID_SIZE * usize::from(head.boards);
             put_ids(
                 out,
-                octets::first_bytes(octets::bytes_after(&capture, head.ids), size),
-            )?;
-            put_records(out, octets::bytes_after(&capture, head.records), head)?;
+                octets::first_bytes(octets::bytes_after(capture, head.ids), size),
+            );
+            put_records(out, octets::bytes_after(capture, head.records), head);
         }
     }
-    Ok(())
+    Some(())
 }
 
-// The records of a list, the parts of each side by side.
+// The records of a list, the parts of each side by side, and how many bytes their packets have.
 #[derive(Drop)]
 struct Records {
-    indexes: Vec<u16>,
-    directions: Vec<u8>,
-    counters: Vec<u32>,
-    lengths: Vec<u16>,
-    packets: Vec<u8>,
+    indexes: [u16; fields::MOST],
+    directions: [u8; fields::MOST],
+    counters: [u32; fields::MOST],
+    lengths: [u16; fields::MOST],
+    count: usize,
+    size: usize,
 }
 
-// Reads I.D.C.HEX.
-fn read_record(record: &str, list: &mut Records) -> Result<(), Fault> {
-    let (index, rest) = record.split_once('.').ok_or(Fault::BadLine)?;
-    let (direction, rest) = rest.split_once('.').ok_or(Fault::BadLine)?;
-    let (counter, packet) = rest.split_once('.').ok_or(Fault::BadLine)?;
-    let before = list.packets.len();
-    hex::decode_onto(packet, &mut list.packets)?;
-    let length = list.packets.len().saturating_sub(before);
-    list.indexes
-        .push(fields::index(index).ok_or(Fault::BadLine)?)?;
-    list.directions
-        .push(fields::byte(direction).ok_or(Fault::BadLine)?)?;
-    list.counters
-        .push(fields::decimal(counter).ok_or(Fault::BadLine)?)?;
-    list.lengths
-        .push(u16::try_from(length).ok().ok_or(Fault::BadLine)?)?;
-    Ok(())
+// Reads I.D.C.HEX, and puts the packet behind those before it.
+fn read_record(record: &[u8], list: &mut Records, packets: &mut [u8]) -> Option<()> {
+    let (index, rest) = fields::split_once(record, b'.')?;
+    let (direction, rest) = fields::split_once(rest, b'.')?;
+    let (counter, packet) = fields::split_once(rest, b'.')?;
+    let (packet, _) = hex::decode(packet, packets.get_mut(list.size..)?)?;
+    *list.indexes.get_mut(list.count)? = fields::index(index)?;
+    *list.directions.get_mut(list.count)? = fields::byte(direction)?;
+    *list.counters.get_mut(list.count)? = fields::decimal(counter)?;
+    *list.lengths.get_mut(list.count)? = u16::try_from(packet.len()).ok()?;
+    list.count = list.count.saturating_add(1);
+    list.size = list.size.saturating_add(packet.len());
+    Some(())
 }
 
-fn read_records(records: &[&str], alloc: Global) -> Result<Records, Fault> {
-    let mut list = Records {
-        indexes: Vec::new(alloc),
-        directions: Vec::new(alloc),
-        counters: Vec::new(alloc),
-        lengths: Vec::new(alloc),
-        packets: Vec::new(alloc),
-    };
-    for record in records {
-        read_record(record, &mut list)?;
+fn read_records(records: &[u8], list: &mut Records, packets: &mut [u8]) -> Option<()> {
+    for record in records.split(|byte| *byte == b' ') {
+        read_record(record, list, packets)?;
     }
-    Ok(list)
+    Some(())
 }
 
-// The bytes of IDs joined by commas, or of `-` for none.
-fn read_ids(field: &str, alloc: Global) -> Result<Vec<u8>, Fault> {
-    let mut ids = Vec::new(alloc);
-    if field == "-" {
-        return Ok(ids);
+// Puts the bytes of IDs joined by commas, or of `-` for none, at the start of a room, and says how many they are.
+fn read_ids(field: &[u8], room: &mut [u8]) -> Option<usize> {
+    if let [b'-'] = field {
+        return Some(0);
     }
-    for id in field.split(',') {
-        hex::decode_some(id, &mut ids)?;
+    let mut size: usize = 0;
+    for id in field.split(|byte| *byte == b',') {
+        let (id, _) = hex::decode_some(id, room.get_mut(size..)?)?;
+        size = size.saturating_add(id.len());
     }
-    Ok(ids)
+    Some(size)
 }
 
 // capwrite ROOM IDS I.D.C.HEX ..
-pub(crate) fn write<W: Write>(
-    room: &str,
-    ids: &str,
-    records: &[&str],
-    alloc: Global,
-    out: &mut W,
-) -> Result<(), Fault> {
-    let room = fields::room(room, LONGEST).ok_or(Fault::BadLine)?;
-    let ids = read_ids(ids, alloc)?;
-    let list = read_records(records, alloc)?;
-    let mut buffer = fields::lent(alloc, room)?;
+#[inline(never)]
+pub(crate) fn write(
+    length: &[u8],
+    ids: &[u8],
+    record: Option<&[u8]>,
+    records: Option<&[u8]>,
+    room: &mut [u8],
+    out: &mut Output<'_>,
+) -> Option<()> {
+    let mut lent = [output::FILLER; LONGEST];
+    let buffer = fields::lend(length, &mut lent)?;
+    let size = read_ids(ids, room)?;
+    let (ids, packets) = room.split_at_mut_checked(size)?;
+    let mut list = Records {
+        indexes: [0; fields::MOST],
+        directions: [0; fields::MOST],
+        counters: [0; fields::MOST],
+        lengths: [0; fields::MOST],
+        count: 0,
+        size: 0,
+    };
+    if let Some(record) = record {
+        read_record(record, &mut list, packets)?;
+    }
+    if let Some(records) = records {
+        read_records(records, &mut list, packets)?;
+    }
     let written = recording::write(
-        &mut buffer,
-        &ids,
-        &list.indexes,
-        &list.directions,
-        &list.counters,
-        &list.lengths,
-        &list.packets,
+        buffer,
+        ids,
+        list.indexes.get(..list.count)?,
+        list.directions.get(..list.count)?,
+        list.counters.get(..list.count)?,
+        list.lengths.get(..list.count)?,
+        octets::first_bytes(packets, list.size),
     );
-    output::put_answer(out, "capture", written, &buffer)?;
-    Ok(())
+    out.put_answer(b"capture ", written, buffer);
+    Some(())
 }
 
 // rewrite ROOM CAPTURE
-pub(crate) fn rewrite<W: Write>(
-    room: &str,
-    capture: &str,
-    alloc: Global,
-    out: &mut W,
-) -> Result<(), Fault> {
-    let room = fields::room(room, LONGEST).ok_or(Fault::BadLine)?;
-    let capture = hex::decode(capture, alloc)?;
-    let mut buffer = fields::lent(alloc, room)?;
-    match rewriting::rewrite(&mut buffer, &capture) {
-        Rewritten::Refused(refusal) => output::put_answer(out, "capture", Err(refusal), &buffer)?,
-        Rewritten::Whole(length) => output::put_answer(out, "capture", Ok(length), &buffer)?,
+#[inline(never)]
+pub(crate) fn rewrite(
+    length: &[u8],
+    capture: &[u8],
+    room: &mut [u8],
+    out: &mut Output<'_>,
+) -> Option<()> {
+    let mut lent = [output::FILLER; LONGEST];
+    let buffer = fields::lend(length, &mut lent)?;
+    let (capture, _) = hex::decode(capture, room)?;
+    match rewriting::rewrite(buffer, capture) {
+        Rewritten::Refused(refusal) => out.put_refusal(refusal, buffer),
+        Rewritten::Whole(length) => out.put_written(b"capture ", buffer, length),
         Rewritten::Part(length) => {
-            output::put_answer(out, "capture", Ok(length), &buffer)?;
-            output::put_ending(out, Refusal::WrongRecord)?;
+            out.put_written(b"capture ", buffer, length);
+            out.put_ending(Refusal::WrongRecord);
         }
     }
-    Ok(())
+    Some(())
 }
 
 // summary CAPTURE
-pub(crate) fn summary<W: Write>(capture: &str, alloc: Global, out: &mut W) -> Result<(), Fault> {
-    let capture = hex::decode(capture, alloc)?;
-    let mut lines = vec![in alloc; 0u8; summing::LONGEST_TEXT]?;
-    let Some(length) = summing::summary(&mut lines, &capture) else {
-        return Ok(());
-    };
-    output::put_joined(out, &mut lines, length)?;
-    Ok(())
+#[inline(never)]
+pub(crate) fn summary(capture: &[u8], room: &mut [u8], out: &mut Output<'_>) -> Option<()> {
+    let (capture, _) = hex::decode(capture, room)?;
+    let mut lines = [0u8; summing::LONGEST_TEXT];
+    if let Some(length) = summing::summary(&mut lines, capture) {
+        out.put_joined(octets::first_bytes(&lines, length));
+    }
+    Some(())
 }

@@ -1,72 +1,67 @@
-// The fields of a line.
-use crate::{hex, output};
-use std::alloc::{AllocError, AllocFailed, Global};
-use std::io;
+// The fields of a line. A field that is none of the forms gives `None`, and its line is a bad line.
+use crate::{hex, lines};
 
-// Why a line is not answered to its end: it is none of the forms, its answer could not be written, or memory ran out.
-#[derive(Drop)]
-pub(crate) enum Fault {
-    BadLine,
-    Unwritten(io::Error),
-    OutOfMemory(AllocError),
+// A line has so many commands or records at most: each has eight characters at least, with the space before it.
+pub(crate) const MOST: usize = lines::LONGEST / 8;
+
+// The first four fields of a line, and what is left of it.
+pub(crate) fn split(line: &[u8]) -> [Option<&[u8]>; 5] {
+    let mut fields = line.splitn(5, |byte| *byte == b' ');
+    [
+        fields.next(),
+        fields.next(),
+        fields.next(),
+        fields.next(),
+        fields.next(),
+    ]
 }
 
-impl From<io::Error> for Fault {
-    fn from(error: io::Error) -> Fault {
-        Fault::Unwritten(error)
-    }
-}
-
-impl From<AllocError> for Fault {
-    fn from(error: AllocError) -> Fault {
-        Fault::OutOfMemory(error)
-    }
-}
-
-impl<T: Drop> From<AllocFailed<T>> for Fault {
-    fn from(error: AllocFailed<T>) -> Fault {
-        Fault::OutOfMemory(AllocError::from(error))
-    }
+// What stands before and behind the first separator of a field.
+pub(crate) fn split_once(field: &[u8], separator: u8) -> Option<(&[u8], &[u8])> {
+    let place = field.iter().position(|byte| *byte == separator)?;
+    Some((
+        octets::first_bytes(field, place),
+        octets::bytes_after(field, place + 1),
+    ))
 }
 
 // A decimal number up to 4294967295, without a leading zero.
-pub(crate) fn decimal(field: &str) -> Option<u32> {
-    if field.starts_with('+') || 1 < field.len() && field.starts_with('0') {
+pub(crate) fn decimal(field: &[u8]) -> Option<u32> {
+    if let [] | [b'0', _, ..] = field {
         return None;
     }
-    field.parse::<u32>().ok()
+    let mut value: u32 = 0;
+    for character in field {
+        let digit = match *character {
+            b'0'..=b'9' => *character - b'0',
+            _ => return None,
+        };
+        value = value.checked_mul(10)?.checked_add(u32::from(digit))?;
+    }
+    Some(value)
 }
 
 // A decimal number up to 255.
-pub(crate) fn byte(field: &str) -> Option<u8> {
+pub(crate) fn byte(field: &[u8]) -> Option<u8> {
     u8::try_from(decimal(field)?).ok()
 }
 
 // A decimal number up to 65535.
-pub(crate) fn index(field: &str) -> Option<u16> {
+pub(crate) fn index(field: &[u8]) -> Option<u16> {
     u16::try_from(decimal(field)?).ok()
 }
 
-// The length of a lent buffer, up to `longest`.
-pub(crate) fn room(field: &str, longest: u32) -> Option<usize> {
-    let length = decimal(field)?;
-    if longest < length {
-        return None;
-    }
-    Some(length as usize)
+// The first bytes of a lent buffer, as many as a field says.
+pub(crate) fn lend<'a>(field: &[u8], buffer: &'a mut [u8]) -> Option<&'a mut [u8]> {
+    buffer.get_mut(..decimal(field)? as usize)
 }
 
 // A parameter number: four hex digits.
-pub(crate) fn number(field: &str) -> Option<u16> {
-    let [first, second, third, fourth] = field.as_bytes() else {
+pub(crate) fn number(field: &[u8]) -> Option<u16> {
+    let [first, second, third, fourth] = field else {
         return None;
     };
     let page = hex::pair(*first, *second)?;
     let low = hex::pair(*third, *fourth)?;
     Some(u16::from_be_bytes([page, low]))
-}
-
-// A buffer that is lent to a call, each byte of it the filler.
-pub(crate) fn lent(alloc: Global, length: usize) -> Result<Vec<u8>, Fault> {
-    Ok(vec![in alloc; output::FILLER; length]?)
 }

@@ -1,35 +1,10 @@
 // Bytes as a call list shows them: pairs of uppercase digits, or `-` for none.
 ghost use Rattle.std.specs.Prelude.{◌<◌, MatchOption};
 
-use crate::fields::Fault;
-use std::alloc::Global;
-use std::fmt;
+use crate::lines;
 
-// Bytes as pairs of digits.
-#[derive(Clone, Copy)]
-pub(crate) struct Hex<'a>(pub(crate) &'a [u8]);
-
-impl fmt::Display for Hex<'_> {
-    fn fmt<W: fmt::Write>(&self, f: &mut fmt::Formatter<W>) -> fmt::Result {
-        for byte in self.0 {
-            write!(f, "{byte:02X}")?;
-        }
-        Ok(())
-    }
-}
-
-// The same, but `-` for no bytes.
-#[derive(Clone, Copy)]
-pub(crate) struct Field<'a>(pub(crate) &'a [u8]);
-
-impl fmt::Display for Field<'_> {
-    fn fmt<W: fmt::Write>(&self, f: &mut fmt::Formatter<W>) -> fmt::Result {
-        if self.0.is_empty() {
-            return f.write_str("-");
-        }
-        write!(f, "{}", Hex(self.0))
-    }
-}
+// A line has digits of so many bytes at most.
+pub(crate) const MOST: usize = lines::LONGEST / 2;
 
 // The value of a digit.
 fn digit(character: u8) -> Option<u8>
@@ -47,31 +22,34 @@ pub(crate) fn pair(high: u8, low: u8) -> Option<u8> {
     Some(16 * digit(high)? + digit(low)?)
 }
 
-// Puts the bytes of a field that stands for one byte at least behind `bytes`.
-pub(crate) fn decode_some(field: &str, bytes: &mut Vec<u8>) -> Result<(), Fault> {
-    if field.is_empty() || field.len() % 2 != 0 {
-        return Err(Fault::BadLine);
-    }
-    for digits in field.as_bytes().chunks_exact(2) {
+// Puts the bytes of as many pairs of digits into `bytes`.
+fn decode_pairs(pairs: &[u8], bytes: &mut [u8]) -> Option<()> {
+    for (byte, digits) in bytes.iter_mut().zip(pairs.chunks_exact(2)) {
         let [high, low] = digits else {
-            return Err(Fault::BadLine);
+            return None;
         };
-        bytes.push(pair(*high, *low).ok_or(Fault::BadLine)?)?;
+        *byte = pair(*high, *low)?;
     }
-    Ok(())
+    Some(())
 }
 
-// Puts the bytes of a field behind `bytes`.
-pub(crate) fn decode_onto(field: &str, bytes: &mut Vec<u8>) -> Result<(), Fault> {
-    if field == "-" {
-        return Ok(());
+// Puts the bytes of a field that stands for one byte at least at the start of a room. Hands back these bytes and the room behind them.
+pub(crate) fn decode_some<'a>(
+    field: &[u8],
+    room: &'a mut [u8],
+) -> Option<(&'a mut [u8], &'a mut [u8])> {
+    if field.is_empty() || field.len() % 2 != 0 {
+        return None;
     }
-    decode_some(field, bytes)
+    let (bytes, rest) = room.split_at_mut_checked(field.len() / 2)?;
+    decode_pairs(field, bytes)?;
+    Some((bytes, rest))
 }
 
-// The bytes of a field.
-pub(crate) fn decode(field: &str, alloc: Global) -> Result<Vec<u8>, Fault> {
-    let mut bytes = Vec::new(alloc);
-    decode_onto(field, &mut bytes)?;
-    Ok(bytes)
+// The same of any field.
+pub(crate) fn decode<'a>(field: &[u8], room: &'a mut [u8]) -> Option<(&'a mut [u8], &'a mut [u8])> {
+    if let [b'-'] = field {
+        return room.split_at_mut_checked(0);
+    }
+    decode_some(field, room)
 }

@@ -1,10 +1,10 @@
 // The lines of the input.
-ghost use Rattle.std.specs.Prelude.{◌≤◌, ◌<◌, length, IfOk, IfSome};
+ghost use Rattle.std.specs.Prelude.{◌≤◌, ◌<◌, length, IfSome};
 
 use crate::calls;
+use crate::output::Output;
 use model::Board;
-use std::alloc::{AllocError, Global};
-use std::io::{Read, Write};
+use std::io::Read;
 
 // The most characters of a line.
 pub(crate) const LONGEST: usize = 65536;
@@ -16,21 +16,17 @@ fn line_end(bytes: &[u8]) -> Option<usize>
     bytes.iter().position(|byte| *byte == b'\n')
 }
 
-// Answers each line that has ended, and says how many bytes follow them.
-fn answer_lines<W: Write + Drop>(
-    board: &mut Board,
-    lines: &[u8],
-    alloc: Global,
-    out: &mut W,
-) -> Result<usize, AllocError>
-    ensures { IfOk result (λ left. left ≤ length lines.now) }
+// Answers each line that has ended, writes the answers out, and says how many bytes follow these lines.
+fn answer_lines(board: &mut Board, lines: &[u8], room: &mut [u8], out: &mut Output<'_>) -> usize
+    ensures { result ≤ length lines.now }
 {
     let mut left = lines;
     while let Some(end) = line_end(left) {
-        calls::answer(board, octets::first_bytes(left, end), alloc, out)?;
+        calls::answer(board, octets::first_bytes(left, end), room, out);
         left = octets::bytes_after(left, end + 1);
     }
-    Ok(left.len())
+    out.flush();
+    left.len()
 }
 
 // Moves the last bytes of a filled window, a line that has not ended, to its start, and says how many are kept. A line that fills the window
@@ -49,12 +45,12 @@ fn keep(window: &mut [u8], filled: usize, left: usize) -> usize
 }
 
 // Answers the lines of the input on one board. A failed read ends the input, and the end of the input ends its last line.
-pub(crate) fn replay<R: Read, W: Write + Drop>(
+pub(crate) fn replay<R: Read>(
     input: &mut R,
     window: &mut [u8],
-    alloc: Global,
-    out: &mut W,
-) -> Result<(), AllocError> {
+    room: &mut [u8],
+    out: &mut Output<'_>,
+) {
     // A refused set-up gives the board before the first call.
     let mut board = board::set_up(b"", b"", 0, rows::MICRA).board;
     let mut held: usize = 0;
@@ -65,11 +61,11 @@ pub(crate) fn replay<R: Read, W: Write + Drop>(
         if filled <= held {
             break;
         }
-        let left = answer_lines(&mut board, octets::first_bytes(window, filled), alloc, out)?;
+        let left = answer_lines(&mut board, octets::first_bytes(window, filled), room, out);
         held = keep(window, filled, left);
     }
-    if held == 0 {
-        return Ok(());
+    if held != 0 {
+        calls::answer(&mut board, octets::first_bytes(window, held), room, out);
+        out.flush();
     }
-    calls::answer(&mut board, octets::first_bytes(window, held), alloc, out)
 }

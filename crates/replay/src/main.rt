@@ -13,14 +13,13 @@ mod schedule_entries;
 mod table_calls;
 mod tool_calls;
 
-use std::io;
-use std::io::LineWriter;
+use output::Output;
 
-// Each answer is written out with its line's end, so that who waits for it gets it.
-fn main(rt: HostRuntime) -> io::Result<()> {
-    // Room for a line and its end.
+fn main(rt: HostRuntime) {
+    // Room for a line and its end, for the text of the answers, and for the bytes that a line gives.
     let mut window = [0u8; lines::LONGEST + 1];
-    let mut out = LineWriter::new(rt.alloc(), rt.stdout())?;
-    lines::replay(&mut rt.stdin(), &mut window, rt.alloc(), &mut out)?;
-    Ok(())
+    let mut text = [0u8; output::ROOM];
+    let mut room = [0u8; hex::MOST];
+    let mut out = Output::new(rt.stdout(), &mut text);
+    lines::replay(&mut rt.stdin(), &mut window, &mut room, &mut out);
 }

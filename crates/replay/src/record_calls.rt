@@ -1,48 +1,37 @@
 // The calls that show the record and write it with no check.
-use crate::fields::Fault;
-use crate::hex::Field;
-use crate::{fields, hex, output, schedule_entries};
+use crate::output::Output;
+use crate::{fields, hex, schedule_entries};
 use model::Board;
-use std::alloc::Global;
-use std::io;
-use std::io::Write;
+use std::fmt::Write as _;
 use store::Store;
 
 // Above the number of every row.
 const NUMBERS: u16 = 0x0500;
 
 // The rows that a unit type has, numbers ascending.
-fn put_rows<W: Write>(out: &mut W, store: Store) -> io::Result<()> {
+fn put_rows(out: &mut Output<'_>, store: Store) {
     for number in 0..NUMBERS {
         if store::find(store.unit, number).is_some() {
             let [page, low] = number.to_be_bytes();
-            output::put_held(
-                out,
-                page,
-                low,
-                store::held(&store.bytes, store.unit, number),
-            )?;
+            out.put_held(page, low, store::held(&store.bytes, store.unit, number));
         }
     }
-    Ok(())
 }
 
 // record
-pub(crate) fn show<W: Write>(board: &Board, out: &mut W) -> Result<(), Fault> {
-    let id = Field(&board.id);
-    let password = Field(octets::first_bytes(&board.password, usize::from(board.size)));
+pub(crate) fn show(board: &Board, out: &mut Output<'_>) {
     let mode = board.mode;
     let store = board.parameters.store;
     let unit = store.unit;
-    write!(
-        out,
-        "record id={id} password={password} mode={mode} type={unit}"
-    )?;
-    put_rows(out, store)?;
+    out.put(b"record id=");
+    out.put_field(&board.id);
+    out.put(b" password=");
+    out.put_field(octets::first_bytes(&board.password, usize::from(board.size)));
+    let _ = write!(out, " mode={mode} type={unit}");
+    put_rows(out, store);
     if unit == rows::MICRA {
-        schedule_entries::put(out, board.parameters.schedule)?;
+        schedule_entries::put(out, board.parameters.schedule);
     }
-    Ok(())
 }
 
 fn poke_id(board: &mut Board, value: &[u8]) {
@@ -110,31 +99,40 @@ fn poke_entry(board: &mut Board, index: usize, value: &[u8]) {
 }
 
 // poke 0077:D.P VALUE, poke NUMBER VALUE
-fn poke_parameter(board: &mut Board, name: &str, value: &[u8]) -> Result<(), Fault> {
+fn poke_parameter(board: &mut Board, name: &[u8], value: &[u8]) -> Option<()> {
     if let Some(index) = schedule_entries::place_of(name) {
         poke_entry(board, index, value);
-        return Ok(());
+        return Some(());
     }
-    let number = fields::number(name).ok_or(Fault::BadLine)?;
+    let number = fields::number(name)?;
     board.parameters.store = with_row(board.parameters.store, number, value);
-    Ok(())
+    Some(())
 }
 
-// poke mode N, poke type N, poke id HEX, poke password HEX, and the parameters
-pub(crate) fn poke<W: Write>(
-    board: &mut Board,
-    name: &str,
-    value: &str,
-    alloc: Global,
-    out: &mut W,
-) -> Result<(), Fault> {
+// poke id HEX, poke password HEX, and the parameters
+fn poke_bytes(board: &mut Board, name: &[u8], value: &[u8], room: &mut [u8]) -> Option<()> {
+    let (value, _) = hex::decode(value, room)?;
     match name {
-        "mode" => board.mode = fields::byte(value).ok_or(Fault::BadLine)?,
-        "type" => board.parameters.store.unit = fields::byte(value).ok_or(Fault::BadLine)?,
-        "id" => poke_id(board, &hex::decode(value, alloc)?),
-        "password" => poke_password(board, &hex::decode(value, alloc)?),
-        _ => poke_parameter(board, name, &hex::decode(value, alloc)?)?,
+        b"id" => poke_id(board, value),
+        b"password" => poke_password(board, value),
+        _ => poke_parameter(board, name, value)?,
     }
-    out.write_all(b"poked")?;
-    Ok(())
+    Some(())
+}
+
+// poke mode N, poke type N, and what is given as bytes
+pub(crate) fn poke(
+    board: &mut Board,
+    name: &[u8],
+    value: &[u8],
+    room: &mut [u8],
+    out: &mut Output<'_>,
+) -> Option<()> {
+    match name {
+        b"mode" => board.mode = fields::byte(value)?,
+        b"type" => board.parameters.store.unit = fields::byte(value)?,
+        _ => poke_bytes(board, name, value, room)?,
+    }
+    out.put(b"poked");
+    Some(())
 }

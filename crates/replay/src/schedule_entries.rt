@@ -1,29 +1,27 @@
 // The entries of the weekly schedule, as `record` shows and `poke` names them: 0077:D.P for day D and period P.
-use crate::hex::Hex;
+use crate::output::Output;
 use rows::WholeDegrees;
 use schedule::{Entry, Schedule};
-use std::io;
-use std::io::Write;
+use std::fmt::Write as _;
 
-fn put_day<W: Write>(out: &mut W, schedule: Schedule, day: u8) -> io::Result<()> {
+fn put_day(out: &mut Output<'_>, schedule: Schedule, day: u8) {
     for period in 1..=4u8 {
         let entry = schedule::report(schedule, day, period);
-        write!(out, " 0077:{day}.{period}={}", Hex(&entry[2..]))?;
+        let _ = write!(out, " 0077:{day}.{period}=");
+        out.put_hex(&entry[2..]);
     }
-    Ok(())
 }
 
 // Puts the entries, days and then periods ascending.
-pub(crate) fn put<W: Write>(out: &mut W, schedule: Schedule) -> io::Result<()> {
+pub(crate) fn put(out: &mut Output<'_>, schedule: Schedule) {
     for day in 1..=7u8 {
-        put_day(out, schedule, day)?;
+        put_day(out, schedule, day);
     }
-    Ok(())
 }
 
 // The index of the entry that a name stands for.
-pub(crate) fn place_of(name: &str) -> Option<usize> {
-    let [b'0', b'0', b'7', b'7', b':', day, b'.', period] = name.as_bytes() else {
+pub(crate) fn place_of(name: &[u8]) -> Option<usize> {
+    let [b'0', b'0', b'7', b'7', b':', day, b'.', period] = name else {
         return None;
     };
     match (*day, *period) {

@@ -1,70 +1,63 @@
 // The calls on tables: export, import.
-use crate::fields::Fault;
+use crate::output::Output;
 use crate::{capture_calls, fields, hex, output};
 use importing::reading::{NextRow, RefusedLine, Rest};
 use refusals::Refusal;
-use std::alloc::Global;
-use std::io;
-use std::io::Write;
+use std::fmt::Write as _;
 
 // export ROOM CAPTURE
-pub(crate) fn export<W: Write>(
-    room: &str,
-    capture: &str,
-    alloc: Global,
-    out: &mut W,
-) -> Result<(), Fault> {
-    let room = fields::room(room, capture_calls::LONGEST).ok_or(Fault::BadLine)?;
-    let capture = hex::decode(capture, alloc)?;
-    let mut buffer = fields::lent(alloc, room)?;
-    let Some(exported) = exporting::export(&mut buffer, &capture) else {
-        output::put_refusal(out, Refusal::NoSpace, &buffer)?;
-        return Ok(());
+#[inline(never)]
+pub(crate) fn export(
+    length: &[u8],
+    capture: &[u8],
+    room: &mut [u8],
+    out: &mut Output<'_>,
+) -> Option<()> {
+    let mut lent = [output::FILLER; capture_calls::LONGEST];
+    let buffer = fields::lend(length, &mut lent)?;
+    let (capture, _) = hex::decode(capture, room)?;
+    let Some(exported) = exporting::export(buffer, capture) else {
+        out.put_refusal(Refusal::NoSpace, buffer);
+        return Some(());
     };
-    output::put_written(out, "table", &buffer, exported.length)?;
-    write!(out, " refused,{}", exported.refused)?;
+    out.put_written(b"table ", buffer, exported.length);
+    let _ = write!(out, " refused,{}", exported.refused);
     if let Some(refusal) = exported.capture {
-        write!(out, " capture,{}", refusal.number())?;
+        let _ = write!(out, " capture,{}", refusal.number());
     }
-    Ok(())
+    Some(())
 }
 
 // The refusal of a table at a line, behind the rows before it.
-fn put_refused_line<W: Write>(out: &mut W, at: RefusedLine) -> io::Result<()> {
-    output::put_ending(out, at.refusal)?;
-    write!(out, " line {}", at.line)
+fn put_refused_line(out: &mut Output<'_>, at: RefusedLine) {
+    out.put_ending(at.refusal);
+    let _ = write!(out, " line {}", at.line);
 }
 
 // The digits of a value, behind the number of its parameter; none for an unknown parameter.
-fn put_value<W: Write>(out: &mut W, digits: &[u8]) -> io::Result<()> {
+fn put_value(out: &mut Output<'_>, digits: &[u8]) {
     if digits.is_empty() {
-        return out.write_all(b"unknown");
+        out.put(b"unknown");
     }
-    out.write_all(digits)
+    out.put(digits);
 }
 
 // A row. The digits of ID and value stand in the table as they are shown; each row has direction 1.
-fn put_row<W: Write>(
-    out: &mut W,
-    id: &[u8],
-    counter: u32,
-    page: u8,
-    low: u8,
-    value: &[u8],
-) -> io::Result<()> {
-    out.write_all(b" ")?;
-    out.write_all(id)?;
-    write!(out, ".1.{counter}.{page:02X}{low:02X}=")?;
-    put_value(out, value)
+fn put_row(out: &mut Output<'_>, id: &[u8], counter: u32, page: u8, low: u8, value: &[u8]) {
+    out.put(b" ");
+    out.put(id);
+    let _ = write!(out, ".1.{counter}.");
+    out.put_number(page, low);
+    put_value(out, value);
 }
 
 // The rows of a table, and its refusal.
-fn put_rows<W: Write>(out: &mut W, table: &[u8], rest: Rest) -> io::Result<()> {
+fn put_rows(out: &mut Output<'_>, table: &[u8], rest: Rest) {
     let mut left = block::part(table, rest.rest, 0);
     let mut line = rest.line;
     loop {
         match importing::reading::next_row(left, line) {
-            NextRow::End => return Ok(()),
+            NextRow::End => return,
             NextRow::Refused(at) => return put_refused_line(out, at),
             NextRow::Row {
                 board,
@@ -84,7 +77,7 @@ fn put_rows<W: Write>(out: &mut W, table: &[u8], rest: Rest) -> io::Result<()> {
                     page,
                     low,
                     block::part(left, value, value_end),
-                )?;
+                );
                 left = block::part(left, rest, 0);
                 line = next;
             }
@@ -93,12 +86,12 @@ fn put_rows<W: Write>(out: &mut W, table: &[u8], rest: Rest) -> io::Result<()> {
 }
 
 // import TABLE
-pub(crate) fn import<W: Write>(table: &str, alloc: Global, out: &mut W) -> Result<(), Fault> {
-    let table = hex::decode(table, alloc)?;
-    out.write_all(b"reports")?;
-    match importing::reading::open(&table) {
-        Err(at) => put_refused_line(out, at)?,
-        Ok(rest) => put_rows(out, &table, rest)?,
+pub(crate) fn import(table: &[u8], room: &mut [u8], out: &mut Output<'_>) -> Option<()> {
+    let (table, _) = hex::decode(table, room)?;
+    out.put(b"reports");
+    match importing::reading::open(table) {
+        Err(at) => put_refused_line(out, at),
+        Ok(rest) => put_rows(out, table, rest),
     }
-    Ok(())
+    Some(())
 }

@@ -1,90 +1,89 @@
 // The calls of the tool: write, read, list.
-use crate::fields::Fault;
+use crate::output::Output;
 use crate::{fields, hex, output};
 use block::response::NextReport;
-use refusals::Refusal;
-use std::alloc::Global;
-use std::io;
-use std::io::Write;
 
-// A command list, the parts of each command side by side.
+// A command list, the parts of each command side by side, and how many bytes their values have. The call that holds it is not inlined, so
+// that no other call has it on its stack.
 #[derive(Drop)]
 struct Commands {
-    functions: Vec<u8>,
-    numbers: Vec<u16>,
-    lengths: Vec<u16>,
-    values: Vec<u8>,
+    functions: [u8; fields::MOST],
+    numbers: [u16; fields::MOST],
+    lengths: [u16; fields::MOST],
+    count: usize,
+    size: usize,
 }
 
-// Reads F:NNNN:VALUE.
-fn read_command(command: &str, list: &mut Commands) -> Result<(), Fault> {
-    let (function, rest) = command.split_once(':').ok_or(Fault::BadLine)?;
-    let (number, value) = rest.split_once(':').ok_or(Fault::BadLine)?;
-    let before = list.values.len();
-    hex::decode_onto(value, &mut list.values)?;
-    let length = list.values.len().saturating_sub(before);
-    list.functions
-        .push(fields::byte(function).ok_or(Fault::BadLine)?)?;
-    list.numbers
-        .push(fields::number(number).ok_or(Fault::BadLine)?)?;
-    list.lengths
-        .push(u16::try_from(length).ok().ok_or(Fault::BadLine)?)?;
-    Ok(())
+// Reads F:NNNN:VALUE, and puts the value behind those before it.
+fn read_command(command: &[u8], list: &mut Commands, values: &mut [u8]) -> Option<()> {
+    let (function, rest) = fields::split_once(command, b':')?;
+    let (number, value) = fields::split_once(rest, b':')?;
+    let (value, _) = hex::decode(value, values.get_mut(list.size..)?)?;
+    *list.functions.get_mut(list.count)? = fields::byte(function)?;
+    *list.numbers.get_mut(list.count)? = fields::number(number)?;
+    *list.lengths.get_mut(list.count)? = u16::try_from(value.len()).ok()?;
+    list.count = list.count.saturating_add(1);
+    list.size = list.size.saturating_add(value.len());
+    Some(())
 }
 
-fn read_commands(commands: &[&str], alloc: Global) -> Result<Commands, Fault> {
-    let mut list = Commands {
-        functions: Vec::new(alloc),
-        numbers: Vec::new(alloc),
-        lengths: Vec::new(alloc),
-        values: Vec::new(alloc),
-    };
-    for command in commands {
-        read_command(command, &mut list)?;
+fn read_commands(commands: &[u8], list: &mut Commands, values: &mut [u8]) -> Option<()> {
+    for command in commands.split(|byte| *byte == b' ') {
+        read_command(command, list, values)?;
     }
-    Ok(list)
+    Some(())
 }
 
 // write LENGTH ID PASSWORD F:NNNN:VALUE ..
-pub(crate) fn write<W: Write>(
-    length: &str,
-    id: &str,
-    password: &str,
-    commands: &[&str],
-    alloc: Global,
-    out: &mut W,
-) -> Result<(), Fault> {
-    let length = fields::room(length, 1024).ok_or(Fault::BadLine)?;
-    let id = hex::decode(id, alloc)?;
-    let password = hex::decode(password, alloc)?;
-    let list = read_commands(commands, alloc)?;
-    let mut buffer = fields::lent(alloc, length)?;
+#[inline(never)]
+pub(crate) fn write(
+    length: &[u8],
+    id: &[u8],
+    password: &[u8],
+    commands: Option<&[u8]>,
+    room: &mut [u8],
+    out: &mut Output<'_>,
+) -> Option<()> {
+    let mut lent = [output::FILLER; 1024];
+    let buffer = fields::lend(length, &mut lent)?;
+    let (id, rest) = hex::decode(id, room)?;
+    let (password, values) = hex::decode(password, rest)?;
+    let mut list = Commands {
+        functions: [0; fields::MOST],
+        numbers: [0; fields::MOST],
+        lengths: [0; fields::MOST],
+        count: 0,
+        size: 0,
+    };
+    if let Some(commands) = commands {
+        read_commands(commands, &mut list, values)?;
+    }
     let written = tool::request::write(
-        &mut buffer,
-        &id,
-        &password,
-        &list.functions,
-        &list.numbers,
-        &list.lengths,
-        &list.values,
+        buffer,
+        id,
+        password,
+        list.functions.get(..list.count)?,
+        list.numbers.get(..list.count)?,
+        list.lengths.get(..list.count)?,
+        octets::first_bytes(values, list.size),
     );
-    output::put_answer(out, "packet", written, &buffer)?;
-    Ok(())
+    out.put_answer(b"packet ", written, buffer);
+    Some(())
 }
 
-fn put_reports<W: Write>(out: &mut W, block: &[u8]) -> io::Result<()> {
+fn put_reports(out: &mut Output<'_>, block: &[u8]) {
     let mut left = block;
     let mut page: u8 = 0;
     loop {
         match reports::next_report(left, page) {
-            NextReport::End | NextReport::Malformed => return Ok(()),
+            NextReport::End | NextReport::Malformed => return,
             NextReport::Held {
                 page: next_page,
                 low,
                 value,
                 rest,
             } => {
-                output::put_held(out, next_page, low, block::part(left, value, rest))?;
+                out.put_held(next_page, low, block::part(left, value, rest));
                 left = block::part(left, rest, 0);
                 page = next_page;
             }
@@ -93,7 +92,7 @@ fn put_reports<W: Write>(out: &mut W, block: &[u8]) -> io::Result<()> {
                 low,
                 rest,
             } => {
-                output::put_unknown(out, next_page, low)?;
+                out.put_unknown(next_page, low);
                 left = block::part(left, rest, 0);
                 page = next_page;
             }
@@ -102,38 +101,37 @@ fn put_reports<W: Write>(out: &mut W, block: &[u8]) -> io::Result<()> {
 }
 
 // read ID PASSWORD PACKET
-pub(crate) fn read<W: Write>(
-    id: &str,
-    password: &str,
-    packet: &str,
-    alloc: Global,
-    out: &mut W,
-) -> Result<(), Fault> {
-    let id = hex::decode(id, alloc)?;
-    let password = hex::decode(password, alloc)?;
-    let packet = hex::decode(packet, alloc)?;
-    match tool::response::read(&packet, &id, &password) {
-        Err(refusal) => output::put_refused(out, refusal)?,
+pub(crate) fn read(
+    id: &[u8],
+    password: &[u8],
+    packet: &[u8],
+    room: &mut [u8],
+    out: &mut Output<'_>,
+) -> Option<()> {
+    let (id, rest) = hex::decode(id, room)?;
+    let (password, rest) = hex::decode(password, rest)?;
+    let (packet, _) = hex::decode(packet, rest)?;
+    match tool::response::read(packet, id, password) {
+        Err(refusal) => out.put_refused(refusal),
         Ok(block) => {
-            out.write_all(b"reports")?;
-            let behind = octets::bytes_after(&packet, block.block);
+            out.put(b"reports");
+            let behind = octets::bytes_after(packet, block.block);
             put_reports(
                 out,
                 octets::first_bytes(behind, block.end.saturating_sub(block.block)),
-            )?;
+            );
         }
     }
-    Ok(())
+    Some(())
 }
 
 // list PACKET
-pub(crate) fn list<W: Write>(packet: &str, alloc: Global, out: &mut W) -> Result<(), Fault> {
-    let packet = hex::decode(packet, alloc)?;
+pub(crate) fn list(packet: &[u8], room: &mut [u8], out: &mut Output<'_>) -> Option<()> {
+    let (packet, _) = hex::decode(packet, room)?;
     // The longest listing.
     let mut lines = [0u8; 1753];
-    let Some(length) = tool::listing::list(&mut lines, &packet) else {
-        return Ok(());
-    };
-    output::put_joined(out, &mut lines, length)?;
-    Ok(())
+    if let Some(length) = tool::listing::list(&mut lines, packet) {
+        out.put_joined(octets::first_bytes(&lines, length));
+    }
+    Some(())
 }

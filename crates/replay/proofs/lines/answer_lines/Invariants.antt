@@ -3,7 +3,7 @@ use Rattle.replay.proofs.lines.answer_lines.Given as goal
 
 -- each line leaves fewer bytes
 abbrev pub invariant-loop-end : goal.invariant-loop-end
-invariant-loop-end g l = length l.left ≤ length l.lines
+invariant-loop-end l = length l.left ≤ length l.lines
 
 abbrev pub decreases-loop-end : goal.decreases-loop-end
-decreases-loop-end g l = length l.left
+decreases-loop-end l = length l.left

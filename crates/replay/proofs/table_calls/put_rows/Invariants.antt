@@ -3,4 +3,4 @@ use Rattle.replay.proofs.table_calls.put_rows.Given as goal
 
 -- each row leaves fewer bytes
 abbrev pub decreases-loop-at : goal.decreases-loop-at
-decreases-loop-at g l = length l.left
+decreases-loop-at l = length l.left
