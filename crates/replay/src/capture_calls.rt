@@ -113,7 +113,7 @@ fn read_ids(field: &[u8], room: &mut [u8]) -> Option<usize> {
     Some(size)
 }
 
-// capwrite ROOM IDS I.D.C.HEX ..
+// capwrite ROOM IDS I.D.C.HEX .. The first record is a field of its own, the others are what is left of the line.
 #[inline(never)]
 pub(crate) fn write(
     length: &[u8],
